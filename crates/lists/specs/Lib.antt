@@ -1,0 +1,6 @@
+pub mod Tokens
+pub mod Written
+pub mod Listing
+pub mod Reading
+pub mod Promise
+pub mod Cases

@@ -1,0 +1,9 @@
+-- The laws, lowest first, and the theorems that cite them. Assumes nothing.
+pub mod Divisor
+pub mod Signs
+pub mod Machine
+pub mod Rounding
+pub mod Limits
+pub mod Operations
+pub mod Reduced
+pub mod Theorems

@@ -1,0 +1,14 @@
+pub mod Cond
+pub mod Fields
+pub mod Signs
+pub mod HighFirst
+pub mod Rules
+pub mod Pieces
+pub mod Summaries
+pub mod Sizes
+pub mod Turns
+pub mod Judged
+pub mod Ends
+pub mod Told
+pub mod Numbers
+pub mod Theorems

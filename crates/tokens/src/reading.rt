@@ -1,0 +1,235 @@
+// The token at a place of the input.
+ghost use mathlib.Core.Path.{_≡_};
+ghost use Prim.Native.Nat.{_+_, _*_, _/_, _%_, _^_, _<_, _≤_};
+ghost use lib.Dec.{leb};
+ghost use mathlib.Core.Bool.{_&&_};
+ghost use lib.ListN.{length, getD};
+ghost use lib.IntN.{pos, _-ℤ_};
+ghost use Rattle.numbers.specs.Fraction.{ratioOf};
+ghost use Rattle.tokens.specs.Format.{bias, longestName};
+ghost use Rattle.tokens.specs.Bytes.{signedOf};
+ghost use Rattle.tokens.specs.Text.{isLetter};
+ghost use Rattle.tokens.specs.Joined.{joinedAt};
+ghost use Rattle.tokens.specs.Token.{numberRead, integerSize, rationalSize, ruled, tokenAt, sequence};
+ghost use Rattle.tokens.specs.Inner.{Fitting, judgedBy, rationalBy};
+use crate::Gathered;
+use crate::Piece;
+use crate::Read;
+use crate::Refusal;
+use crate::Summary;
+use crate::bits::low5;
+use crate::bits::op_number;
+use crate::bits::short15;
+use crate::sequences::gather;
+use crate::sequences::piece_at;
+use crate::text::is_letter;
+use crate::values::extended;
+use crate::values::high_half;
+use crate::values::low_half;
+
+fn bad_data(at: usize) -> Read
+    ensures { λ r. ⌜ r ≡ Read.Unread Refusal.BadData at ⌝ }
+{
+    Read::Unread {
+        refusal: Refusal::BadData,
+        place: at,
+    }
+}
+
+fn cut_off(at: usize) -> Read
+    ensures { λ r. ⌜ r ≡ Read.Unread Refusal.CutOff at ⌝ }
+{
+    Read::Unread {
+        refusal: Refusal::CutOff,
+        place: at,
+    }
+}
+
+// A number's token, or the refusal where there is no such number.
+fn number_read(at: usize, next: usize, answer: numbers::Answer) -> Read
+    ensures { λ r. ⌜ r ≡ numberRead at next answer ⌝ }
+{
+    match answer {
+        numbers::Answer::Is(value) => {
+            return Read::Number { value, next };
+        }
+        numbers::Answer::TooLarge => {
+            return bad_data(at);
+        }
+        numbers::Answer::ByZero => {
+            return bad_data(at);
+        }
+    }
+}
+
+// Data of an integer: 1 to 4 bytes.
+fn judge_integer(at: usize, g: Summary, next: usize) -> Read
+    requires { ⌜ Fitting g ⌝ }
+    ensures { λ r. ⌜ r ≡ ruled at (integerSize (g .len)) (numberRead at next (ratioOf (signedOf (g .len) (g .value)) (pos 1))) ⌝ }
+{
+    let len = g.len;
+    if len < 1 {
+        return bad_data(at);
+    }
+    if 4 < len {
+        return bad_data(at);
+    }
+    number_read(at, next, numbers::lowest::ratio(extended(g.value, len), 1))
+}
+
+// The rational of value `v` in two halves of `h` bytes.
+fn rational(h: usize, v: u64) -> numbers::Answer
+    requires { ⌜ (h ≤ 4) × (v < 2 ^ (8 * h + 8 * h)) ⌝ }
+    ensures { λ r. ⌜ r ≡ rationalBy h v ⌝ }
+{
+    numbers::lowest::ratio(extended(high_half(v, h), h), extended(low_half(v, h), h))
+}
+
+// Data of a rational: 2, 4, 6 or 8 bytes.
+fn judge_rational(at: usize, g: Summary, next: usize) -> Read
+    requires { ⌜ Fitting g ⌝ }
+    ensures { λ r. ⌜ r ≡ ruled at (rationalSize (g .len)) (numberRead at next (rationalBy (g .len / 2) (g .value))) ⌝ }
+{
+    let len = g.len;
+    if len % 2 != 0 {
+        return bad_data(at);
+    }
+    if len < 2 {
+        return bad_data(at);
+    }
+    if 8 < len {
+        return bad_data(at);
+    }
+    number_read(at, next, rational(len / 2, g.value))
+}
+
+// Data of an identifier: 1 to 100 bytes, the first a letter.
+fn judge_identifier(at: usize, g: Summary, next: usize) -> Read
+    ensures { λ r. ⌜ r ≡ ruled at (leb 1 (g .len) && (leb (g .len) longestName && (isLetter (g .first) && g .good))) (Read.Identifier (g .len) next) ⌝ }
+{
+    let len = g.len;
+    if len < 1 {
+        return bad_data(at);
+    }
+    if 100 < len {
+        return bad_data(at);
+    }
+    if !is_letter(g.first) {
+        return bad_data(at);
+    }
+    if g.good {
+        return Read::Identifier { len, next };
+    }
+    bad_data(at)
+}
+
+fn judge_string(at: usize, g: Summary, next: usize) -> Read
+    ensures { λ r. ⌜ r ≡ ruled at (g .good) (Read.String (g .len) next) ⌝ }
+{
+    if g.good {
+        return Read::String { count: g.len, next };
+    }
+    bad_data(at)
+}
+
+// Joined data by the rules of the sequence's type.
+fn judge(k: u8, at: usize, g: Summary, next: usize) -> Read
+    requires { ⌜ Fitting g ⌝ }
+    ensures { λ r. ⌜ r ≡ judgedBy k at g next ⌝ }
+{
+    if k == 1 {
+        return judge_string(at, g, next);
+    }
+    if k == 2 {
+        return judge_integer(at, g, next);
+    }
+    if k == 4 {
+        return judge_rational(at, g, next);
+    }
+    if k == 5 {
+        return judge_identifier(at, g, next);
+    }
+    if k == 6 {
+        return Read::Comment { next };
+    }
+    if k == 7 {
+        return Read::Unread {
+            refusal: Refusal::NothingContinued,
+            place: at,
+        };
+    }
+    Read::Unread {
+        refusal: Refusal::TypeNotRead,
+        place: at,
+    }
+}
+
+// The sequence token at `at`.
+fn sequence_at(s: &[u8], at: usize) -> Read
+    requires { ⌜ at < length (now s) ⌝ }
+    ensures { λ r. ⌜ r ≡ sequence (getD (now (s .entry)) at 0 % 32) at (joinedAt (now (s .entry)) at) ⌝ }
+{
+    let k = low5(s[at]);
+    match piece_at(s, at) {
+        Piece::Missing => {
+            return cut_off(at);
+        }
+        Piece::Data { start, len } => match gather(k, s, start, len) {
+            Gathered::Broken { place } => {
+                return cut_off(place);
+            }
+            Gathered::Whole { sum, next } => {
+                return judge(k, at, sum, next);
+            }
+        },
+    }
+}
+
+// A short number: 15 bits less 4000.
+fn short_number(a: u8, b: u8) -> i32
+    ensures { λ r. ⌜ r ≡ pos (a % 128 * 256 + b) -ℤ pos bias ⌝ }
+{
+    (short15(a, b) as i32) - 4000
+}
+
+fn number_token(a: u8, b: u8, next: usize) -> Read
+    ensures { λ r. ⌜ r ≡ Read.Number (record { num = pos (a % 128 * 256 + b) -ℤ pos bias; den = 1 }) next ⌝ }
+{
+    let num = short_number(a, b);
+    Read::Number {
+        value: numbers::Number { num, den: 1 },
+        next,
+    }
+}
+
+// The token that stands at `at`. The end of the input is no token.
+pub fn read_token(s: &[u8], at: usize) -> Read
+    ensures { λ r. ⌜ r ≡ tokenAt (now (s .entry)) at ⌝ }
+{
+    if s.len() <= at {
+        return cut_off(at);
+    }
+    let b = s[at];
+    if b < 128 {
+        if s.len() - at < 2 {
+            return cut_off(at);
+        }
+        return number_token(b, s[at + 1], at + 2);
+    }
+    if b < 160 {
+        return Read::Operator {
+            number: low5(b) as u16,
+            next: at + 1,
+        };
+    }
+    if b < 192 {
+        if s.len() - at < 2 {
+            return cut_off(at);
+        }
+        return Read::Operator {
+            number: op_number(b, s[at + 1]),
+            next: at + 2,
+        };
+    }
+    sequence_at(s, at)
+}
