@@ -3,4 +3,6 @@ pub mod Written
 pub mod Listing
 pub mod Reading
 pub mod Promise
+pub mod Inner
+pub mod Filling
 pub mod Cases

@@ -1,17 +1,17 @@
 -- The token list that bytes are (01, What the controller takes: reading back "drops comments, takes the end of the bytes as the list's
 -- end"; R10: 10, 1, then left to right; every operator number is a plain token). Assumes nothing.
 use Prim.Native.Nat.{ℕ, zero, suc}
-use mathlib.Core.Bool.{Bool, true, false, cond, _&&_}
+use mathlib.Core.Bool.{cond}
 use mathlib.Core.List.{List, [], _∷_, _++_}
-use lib.Dec.{ltb, leb, eqb}
+use lib.Dec.{ltb, leb}
 use lib.ListN.{length}
 use Rattle.tokens.specs.declared.Read.{Read}
 use Rattle.tokens.specs.declared.Read.the-variants.{Number, Identifier, String, Operator, Comment, Unread}
 use Rattle.tokens.specs.declared.Refusal.{Refusal}
 use Rattle.tokens.specs.declared.Refusal.the-variants.{BadHeader, TooLong}
-use Rattle.tokens.specs.Format.{header, longest}
+use Rattle.tokens.specs.Format.{header, starts, longest}
 use Rattle.tokens.specs.Text.{lowered}
-use Rattle.tokens.specs.Joined.{Joined, whole, cutAt, joinedAt}
+use Rattle.tokens.specs.Joined.{dataOf, joinedAt}
 use Rattle.tokens.specs.Token.{tokenAt}
 use Rattle.lists.specs.Tokens.{Token, number, identifier, string, operator}
 
@@ -19,10 +19,6 @@ use Rattle.lists.specs.Tokens.{Token, number, identifier, string, operat
 pub data Got : Type 0 where
   got : List Token → Got
   refused : Refusal → ℕ → Got
-
-unfoldable pub dataOf : Joined → List ℕ
-dataOf (whole d next) = d
-dataOf (cutAt place) = []
 
 -- the token that was read at `at` is put after ts and reading goes on; a comment adds nothing
 unfoldable pub onRead : List ℕ → ℕ → List Token → Read → (ℕ → List Token → Got) → Got
@@ -37,12 +33,6 @@ onRead s at ts (Unread refusal place) more = refused refusal place
 unfoldable pub readFrom : ℕ → List ℕ → ℕ → List Token → Got
 readFrom zero s at ts = got ts
 readFrom (suc k) s at ts = let more = onRead s at ts (tokenAt s at) (readFrom k s) in cond (ltb at (length s)) more (got ts)
-
--- the bytes h stand at the beginning of s
-unfoldable pub starts : List ℕ → List ℕ → Bool
-starts [] s = true
-starts (b ∷ h) [] = false
-starts (b ∷ h) (c ∷ s) = eqb b c && starts h s
 
 -- header, then tokens
 unfoldable pub readList : List ℕ → Got

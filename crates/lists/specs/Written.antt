@@ -7,7 +7,6 @@ use lib.Dec.{ltb, leb, eqb}
 use lib.ListN.{length}
 use lib.IntN.{ℤ, pos, negsuc, natAbs, _+ℤ_}
 use lib.Signed.{mag, nonNeg}
-use Rattle.numbers.specs.declared.Number.{Number}
 use Rattle.tokens.specs.Format.{header, bias, stringType, integerType, rationalType, identifierType}
 use Rattle.lists.specs.Tokens.{Token, number, identifier, string, operator}
 

@@ -2,7 +2,7 @@
 -- a + b = (n e + m d) / (d e), and so on. A number has a denominator of at least 1; of a denominator 0, which no number has,
 -- the answer is a division by zero, and that of DIV by it may be 0. In order: the two numerators over the common denominator;
 -- sum and difference; product and quotient; negative and size; the four roundings; MOD and REM; the order. Assumes nothing.
-use Prim.Native.Nat.{ℕ, _*_}
+use Prim.Native.Nat.{_*_}
 use mathlib.Core.Bool.{cond}
 use lib.Dec.{eqb}
 use lib.IntN.{ℤ, pos, negℤ, natAbs, _+ℤ_, _-ℤ_, _*ℤ_}

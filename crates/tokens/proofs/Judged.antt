@@ -1,6 +1,6 @@
 -- What the reader keeps of the data is enough to judge them. Assumes nothing.
-use mathlib.Core.Path.{_≡_, refl, ap, _∙_}
-use mathlib.Core.Bool.{Bool, true, false, _&&_}
+use mathlib.Core.Path.{_≡_, ap, _∙_}
+use mathlib.Core.Bool.{_&&_}
 use mathlib.Core.List.{List}
 use Prim.Native.Nat.{ℕ, _+_, _/_, _%_, _≤_}
 use native.Mathlib.Omega.{arith}
@@ -19,7 +19,7 @@ use Rattle.tokens.specs.Text.{isName}
 use Rattle.tokens.specs.Joined.{Joined, whole, cutAt}
 use Rattle.tokens.specs.Token.{numberRead, integerSize, rationalSize, rationalIn, judged, sequence}
 use Rattle.tokens.specs.Inner.{ruleOf, roomOf, summaryOf, gatheredOf, rationalBy, judgedBy}
-use Rattle.tokens.proofs.Cond.{under, both}
+use Rattle.tokens.proofs.Cond.{under, both, by-test}
 use Rattle.tokens.proofs.HighFirst.{Bytes, halves}
 
 -- the value of at most eight bytes is that of the first eight
@@ -46,17 +46,13 @@ rational-is at d next b =
     let halved : length d ≡ length d / 2 + length d / 2 = omega (arith, eqb-true (length d % 2) 0 (even .0)) in
     ap (numberRead at next) (ap (rationalBy (length d / 2)) (first-eight d few) ∙ rational-by (length d / 2) d halved b))
 
-split : (A : Type 0) (t : Bool) → (t ≡ true → A) → (t ≡ false → A) → A
-split A true f g = f refl
-split A false f g = g refl
-
 pub judged-is : (k at : ℕ) (d : List ℕ) (next : ℕ) → Bytes d → judgedBy k at (summaryOf k d) next ≡ judged k at d next
 unfolding judgedBy judged summaryOf ruleOf isName
 judged-is k at d next b =
-    split _ (eqb k 1) (λ e. rw (eqb-true k 1 e))
-    (λ n1. split _ (eqb k 2) (λ e. rw (eqb-true k 2 e) (integer-is at d next))
-    (λ n2. split _ (eqb k 4) (λ e. rw (eqb-true k 4 e) (rational-is at d next b))
-    (λ n4. split _ (eqb k 5) (λ e. rw (eqb-true k 5 e)) (λ n5. rw (n1, n2, n4, n5)))))
+    by-test (eqb k 1) (λ e. rw (eqb-true k 1 e))
+    (λ n1. by-test (eqb k 2) (λ e. rw (eqb-true k 2 e) (integer-is at d next))
+    (λ n2. by-test (eqb k 4) (λ e. rw (eqb-true k 4 e) (rational-is at d next b))
+    (λ n4. by-test (eqb k 5) (λ e. rw (eqb-true k 5 e)) (λ n5. rw (n1, n2, n4, n5)))))
 
 -- every byte of whole data is a byte
 abbrev pub AllBytes : Joined → Type 0

@@ -1,4 +1,5 @@
 pub mod Cond
+pub mod HeaderTest
 pub mod Fields
 pub mod Signs
 pub mod HighFirst

@@ -8,6 +8,7 @@ use Rattle.tokens.specs.declared.Read.{Read}
 use Rattle.tokens.specs.declared.Read.the-variants.{Unread}
 use Rattle.tokens.specs.declared.Refusal.the-variants.{BadData}
 use Rattle.tokens.specs.Token.{integerSize, rationalSize, ruled}
+use Rattle.tokens.proofs.Cond.{both-are}
 
 pub ruled-not : (at : ℕ) (good : Bool) (t r : Read) → good ≡ false → r ≡ Unread BadData at → r ≡ ruled at good t
 ruled-not at good t r h e = rw (h, e)
@@ -26,9 +27,6 @@ not-1 a false h = and-false a
 
 pub not-2 : (a b : Bool) → b ≡ false → a && b ≡ false
 not-2 a b h = ap (λ (x : Bool). a && x) h ∙ and-false a
-
-pub both-are : (a b : Bool) → a ≡ true → b ≡ true → a && b ≡ true
-both-are a b h k = ap (λ (x : Bool). x && b) h ∙ k
 
 module _ (n : ℕ) where
   pub integer-none : n < 1 → integerSize n ≡ false

@@ -1,7 +1,7 @@
 -- The data of a sequence: its own, and those of the continued sequences that directly follow it (000, 2.5.1; 01, Tokens; R1, R2, R3).
 -- Past the end of the input every byte reads as 0, so that missing length bytes and missing data are one test. Assumes nothing.
 use Prim.Native.Nat.{ℕ, zero, suc, _+_, _%_}
-use mathlib.Core.List.{List, _++_}
+use mathlib.Core.List.{List, [], _++_}
 use mathlib.Core.Bool.{Bool, cond, _&&_}
 use lib.Dec.{ltb, leb, eqb}
 use lib.ListN.{length, getD}
@@ -47,3 +47,8 @@ joinedFrom (suc k) s at d =
 -- the data of the sequence token at `at`, joined
 unfoldable pub joinedAt : List ℕ → ℕ → Joined
 joinedAt s at = onPiece (pieceAt s at) (cutAt at) (λ start n. joinedFrom (length s) s (start + n) (slice start (start + n) s))
+
+-- the data of a sequence that is whole
+unfoldable pub dataOf : Joined → List ℕ
+dataOf (whole d next) = d
+dataOf (cutAt place) = []

@@ -1,6 +1,7 @@
 // One token of the Xerox encoding, read from bytes (document 000, 2.5; document 01, Tokens). The machine above relies on the
 // definitions of specs/ and the laws of proofs/Theorems.antt alone.
 pub mod refusals; // every refusal of the product by number
+pub mod header; // the header of a master
 pub mod bits; // fields of a token's first bytes
 pub mod values; // bytes high byte first, two's complement
 pub mod text; // strings and identifiers

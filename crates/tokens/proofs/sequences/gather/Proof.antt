@@ -57,7 +57,7 @@ take-piece-requires-2 : tie.Need-take-piece-requires-2 Inv-loop μ-loop
 take-piece-requires-2 c κs =
     let a = c .before .before .before .before .before .before .before .before .before .before .before .args in
     let i = c .before .before .before .before .before .before .before .before .loop .inv in
-    (omega (arith, part c .0, part c .1, i .4, c .before .before .before .before .before .before .before .before .before .before .before .good), i .3, part c .1)
+    (omega (arith, part c .0, part c .1, i .4, c .before .before .before .before .before .before .before .before .before .before .before .good), i .3, omega (arith, part c .1))
 
 add-at-2 : tie.Need-add-at-2 Inv-loop μ-loop
 add-at-2 c =

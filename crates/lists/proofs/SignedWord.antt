@@ -1,0 +1,50 @@
+-- A signed word as its bits. The machine holds a signed number as bits, so `toZ w (ofZ w z)` stands wherever the code has z: taken off
+-- here, once. Assumes nothing.
+use mathlib.Core.Path.{_≡_, refl, sym, ap, subst, _∙_}
+use mathlib.Core.Bool.{Bool, true, false, cond}
+use Prim.Native.Nat.{suc, _-_, _<_, _≤_}
+use native.Mathlib.Omega.{arith}
+use lib.Dec.{T}
+use lib.IntN.{ℤ, pos, negsuc, natAbs, _+ℤ_}
+use lib.Signed.{ltZ, nonNeg, mag}
+use mir.Syntax.{w32, w64}
+use mir.Val.{SFits, Fits, toZ, ofZ}
+use mir.Facts.{toZ-ofZ, fits-ofZ}
+use borrow.Author.Tests.{le-ltb, ltb-true}
+use Rattle.numbers.proofs.Machine.{wide-is}
+
+-- a number below 0 with 2 ^ 32 added
+plus : (z : ℤ) → SFits w32 z → ltZ z (pos 0) ≡ true → z +ℤ pos 4294967296 ≡ pos (ofZ w32 z)
+plus (pos n) f e = absurd (let h : n < 0 = ltb-true n 0 e in omega arith)
+plus (negsuc n) f e =
+    let h : suc n ≤ 4294967296 = omega (arith, f .sfits) in
+    ap (λ (b : Bool). cond b (negsuc (suc n - suc 4294967296)) (pos (4294967296 - suc n))) (le-ltb 4294967296 (suc n) h)
+
+same-bits : (z : ℤ) → ltZ z (pos 0) ≡ false → z ≡ pos (ofZ w32 z)
+same-bits (pos n) e = refl
+same-bits (negsuc n) e = absurd (subst (λ (b : Bool). T b) e tt)
+
+module _ (z : ℤ) (f : SFits w32 z) where
+  widened : toZ w64 (ofZ w64 (toZ w32 (ofZ w32 z))) ≡ z
+  widened = wide-is z (f .sfits)
+
+  -- a number that is the bits is a word
+  pub is-word : (y : ℤ) → y ≡ pos (ofZ w32 z) → T (nonNeg y) × Fits w32 (natAbs y)
+  is-word y e = subst (λ (x : ℤ). T (nonNeg x) × Fits w32 (natAbs x)) (sym e) (tt, fits-ofZ f)
+
+  module _ (e : ltZ (toZ w64 (ofZ w64 (toZ w32 (ofZ w32 z)))) (pos 0) ≡ true) where
+    there : toZ w64 (ofZ w64 (toZ w32 (ofZ w32 z))) +ℤ pos 4294967296 ≡ pos (ofZ w32 z)
+    there = ap (λ (y : ℤ). y +ℤ pos 4294967296) widened ∙ plus z f (subst (λ (y : ℤ). ltZ y (pos 0) ≡ true) widened e)
+
+    pub sum-fits : SFits w64 (toZ w64 (ofZ w64 (toZ w32 (ofZ w32 z))) +ℤ pos 4294967296)
+    sum-fits = subst (SFits w64) (sym there) (record { sfits = omega (arith, (fits-ofZ f) .fits) })
+
+    pub sum : toZ w64 (ofZ w64 (toZ w64 (ofZ w64 (toZ w32 (ofZ w32 z))) +ℤ pos 4294967296)) ≡ pos (ofZ w32 z)
+    sum = toZ-ofZ {w = w64} sum-fits ∙ there
+
+  pub plain : ltZ (toZ w64 (ofZ w64 (toZ w32 (ofZ w32 z)))) (pos 0) ≡ false → toZ w64 (ofZ w64 (toZ w32 (ofZ w32 z))) ≡ pos (ofZ w32 z)
+  plain e = widened ∙ same-bits z (subst (λ (y : ℤ). ltZ y (pos 0) ≡ false) widened e)
+
+-- the numerator of a number, passed on
+pub passed : (z : ℤ) → mag z < 2147483648 → ofZ w32 (toZ w32 (ofZ w32 z)) ≡ ofZ w32 z
+passed z h = let e : toZ w32 (ofZ w32 z) ≡ z = toZ-ofZ (record { sfits = h }) in ap (ofZ w32) e
