@@ -7,9 +7,9 @@ use native.Mathlib.Omega.{arith}
 use lib.Dec.{leb}
 use lib.ListN.{length, set, length-append}
 use lib.Seq.{slice, length-slice, sets}
-use borrow.Author.Tests.{lt-ltb, le-ltb, le-leb, lt-leb}
+use borrow.Author.Tests.{le-leb, lt-leb}
 use Rattle.table.proofs.Stores.{sets-append, sets-snoc}
-use Rattle.lists.specs.Written.{bytesOf, sequenceBytes, operatorBytes}
+use Rattle.lists.specs.Written.{bytesOf, sequenceBytes}
 use Rattle.lists.specs.Inner.{Room, Put, headBytes}
 use Rattle.lists.proofs.HighBytes.{bytes-length}
 
@@ -59,14 +59,6 @@ sequence-is k d = go (leb (length d) 255)
     go : (t : Bool) → cond t ((192 + k) ∷ length d ∷ d) ((224 + k) ∷ (bytesOf 3 (length d) ++ d)) ≡ cond t ((192 + k) ∷ length d ∷ []) ((224 + k) ∷ bytesOf 3 (length d)) ++ d
     go true = refl
     go false = refl
-
-pub op-short : (n : ℕ) → n < 32 → operatorBytes n ≡ (128 + n) ∷ []
-unfolding operatorBytes
-op-short n h = rw (lt-ltb n 32 h)
-
-pub op-long : (n : ℕ) → 32 ≤ n → operatorBytes n ≡ (160 + n / 256) ∷ (n % 256) ∷ []
-unfolding operatorBytes
-op-long n h = rw (le-ltb n 32 h)
 
 -- a text, from its head on
 module _ (x : List ℕ) (s n k : ℕ) (h : s + n ≤ length x) where

@@ -1,6 +1,6 @@
 // Token lists: a token table and its text table, written as one run of bytes and read back (document 01, Tokens and What the
 // controller takes). Both calls keep their promise in specs/Promise.antt.
-pub mod items; // four words, judged
+mod items; // four words, judged
 pub mod writing; // the list as bytes
 pub mod back; // reading back into lent tables
 

@@ -68,9 +68,14 @@ fn put_operator(out: &mut [u8], o: usize, n: u16) -> usize
     ensures { λ r. ⌜ Put (now (out .entry)) (now (out .exit)) o (operatorBytes n) r ⌝ }
 {
     if n < 32 {
-        return put_byte(out, o, 128 + n as u8);
+        return put_byte(out, o, tokens::bits::short_first(n));
     }
-    put_pair(out, o, (160 + n / 256) as u8, (n % 256) as u8)
+    put_pair(
+        out,
+        o,
+        tokens::bits::long_first(n),
+        tokens::bits::low_byte(n),
+    )
 }
 
 // An identifier (type 5) or a string (type 1), from the text table.

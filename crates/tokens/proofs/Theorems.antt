@@ -19,7 +19,7 @@ use Rattle.tokens.specs.Joined.{within, pieceAt, onPiece, joinedFrom, jo
 use Rattle.tokens.specs.Token.{numberRead, judged, sequence, tokenOf, tokenAt}
 use Rattle.tokens.specs.Cases.{Case, cases}
 use Rattle.tokens.proofs.HighFirst.{Bytes}
-use Rattle.tokens.proofs.Told.{Told, token-told}
+use Rattle.tokens.proofs.Told.{Told, Tells, token-told, token-tells}
 use Rattle.tokens.proofs.Numbers.{same-number}
 
 -- THEOREM (demand 1). Two refusals of one number are one refusal.
@@ -34,6 +34,10 @@ read-token-one s at e f = e ∙ sym f
 -- and in lowest terms, a text is the joined data and obeys its rule, an operator is below 8192; a refusal lies from `at` to the end.
 pub token-says : (s : List ℕ) (at : ℕ) → Bytes s → at ≤ length s → Told s at (tokenAt s at)
 token-says s at f h = token-told s at f h
+
+-- THEOREM (for the layers above). Of any bytes: the same, with what asks that elements are bytes behind that; a refusal is one of 2 to 5.
+pub token-tells-all : (s : List ℕ) (at : ℕ) → Tells s at (tokenAt s at)
+token-tells-all s at = token-tells s at
 
 -- THEOREM (for the layers above). At the end of the input there is no token.
 pub token-end : (s : List ℕ) (at : ℕ) → length s ≤ at → tokenAt s at ≡ Unread CutOff at

@@ -17,6 +17,7 @@ use crate::Piece;
 use crate::Read;
 use crate::Refusal;
 use crate::Summary;
+use crate::bits::class_of;
 use crate::bits::low5;
 use crate::bits::op_number;
 use crate::bits::short15;
@@ -210,19 +211,20 @@ pub fn read_token(s: &[u8], at: usize) -> Read
         return cut_off(at);
     }
     let b = s[at];
-    if b < 128 {
+    let class = class_of(b);
+    if class < 4 {
         if s.len() - at < 2 {
             return cut_off(at);
         }
         return number_token(b, s[at + 1], at + 2);
     }
-    if b < 160 {
+    if class == 4 {
         return Read::Operator {
             number: low5(b) as u16,
             next: at + 1,
         };
     }
-    if b < 192 {
+    if class == 5 {
         if s.len() - at < 2 {
             return cut_off(at);
         }

@@ -2,7 +2,8 @@
 use mathlib.Core.Path.{sym, ap, _∙_}
 use native.Mathlib.Omega.{arith}
 use lib.ListN.{length}
-use Rattle.lists.proofs.Storing.{op-short, op-long, text-size}
+use Rattle.lists.proofs.Storing.{text-size}
+use Rattle.lists.proofs.OperatorBack.{operator-short, operator-long}
 use Rattle.lists.proofs.Sizes.{number-bytes, identifier-bytes, string-bytes, operator-bytes, none-bytes}
 use borrow.Author.Needs.{needs}
 use Rattle.lists.proofs.writing.size_of.Statement.{statement}
@@ -22,7 +23,7 @@ size-of-spec =
     (λ c κs. rw (c .before .item3 .given .1) at (c .before .before .before .pre))
     (λ c. let i = c .before .before .before .before .args .item in let e = c .before .before .item3 .given .1 in let p = rw e at (c .before .before .before .before .pre) in (λ x g. c .text-size2 .ensures .0 1 ∙ sym (ap length (string-bytes x i _ _ e) ∙ text-size x _ _ 1 ((rw e at g) .0)), omega (arith, c .text-size2 .ensures .1, p)))
     (λ c. search needs)
-    (λ c. (λ x g. sym (ap length (operator-bytes x (c .before .before .before .before .args .item) _ (c .before .before .item4 .given .1) ∙ op-short _ (c .if1 .taken))), omega arith))
-    (λ c. (λ x g. sym (ap length (operator-bytes x (c .before .before .before .before .args .item) _ (c .before .before .item4 .given .1) ∙ op-long _ (c .if1 .left))), omega arith))
+    (λ c. (λ x g. sym (ap length (operator-bytes x (c .before .before .before .before .args .item) _ (c .before .before .item4 .given .1) ∙ operator-short _ (c .if1 .taken))), omega arith))
+    (λ c. (λ x g. sym (ap length (operator-bytes x (c .before .before .before .before .args .item) _ (c .before .before .item4 .given .1) ∙ operator-long _ (c .if1 .left))), omega arith))
     (λ c. search needs)
     (λ c. (λ x g. sym (ap length (none-bytes x (c .before .before .args .item) (c .enum-told .given .1))), omega arith)))

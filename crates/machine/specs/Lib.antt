@@ -1,0 +1,14 @@
+pub mod Limits
+pub mod Skeleton
+pub mod State
+pub mod Literal
+pub mod Operand
+pub mod Ops
+pub mod Operators
+pub mod Contexts
+pub mod Engine
+pub mod Step
+pub mod Page
+pub mod Promise
+pub mod Isolation
+pub mod Cases
