@@ -1,6 +1,6 @@
 -- Pages that are proved to run as 01 and the rulings say, as one table: the preamble's and the page's bytes, the allowance, the row and the
 -- stack. The first four are the P cases of 01. Above each stands the page in the notation of the rulings (a body operator before its body).
--- `failures` gives the number of each case that does not hold; proofs/Cases.antt proves that there is none. Assumes nothing.
+-- `failures` gives the number of each case that does not hold; proofs/CaseTable.antt proves that there is none. Assumes nothing.
 use Prim.Native.Nat.{ℕ, suc}
 use mathlib.Core.Bool.{Bool, true, false, cond, _&&_}
 use mathlib.Core.List.{List, [], _∷_, reverse}
