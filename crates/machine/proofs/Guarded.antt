@@ -11,7 +11,7 @@ use Rattle.machine.specs.State.{Entry, val, mark, Context, State, runnin
 use Rattle.machine.specs.Literal.{Code}
 use Rattle.machine.specs.Contexts.{beneath, over, failing, fault, settle, skippedIn, skipped}
 use Rattle.machine.specs.Engine.{pops, noted, storeIn}
-use Rattle.machine.specs.Step.{begunIn, ended, step, run}
+use Rattle.machine.specs.Step.{begunIn, ended, dueIn, step, run}
 use Rattle.machine.specs.Isolation.{member, callersOf, guarded, Protected}
 use Rattle.machine.proofs.Identities.{clash, Falling, Good, falling-le, not-member, Above, here, there, above-falls, above-lt, callers-are, above-callers}
 use Rattle.machine.proofs.Callers.{Stays, inside, gone, recover-stays, leave-stays, skip-stays}
@@ -101,16 +101,16 @@ module _ (d : ℕ) (callers : List Context) where
       moved next c cs (here _ e) = here _ e
       moved next c cs (there _ b) = there _ b
 
-      skips : (t : State) → Begun s t → StaysIn s (skipped t)
-      skips t (begins next c cs e) = skip-stays d callers under _ (s .stack) (suc (s .steps)) _ cs (moved next c cs (rw e at a)) (rw e at g)
+      skips : (t : State) → Begun code s t → StaysIn s (skipped t)
+      skips t (begins c cs e) = skip-stays d callers under _ (s .stack) (suc (s .steps)) _ cs (moved _ c cs (rw e at a)) (rw e at g)
 
-      fails : (t : State) → Begun s t → StaysIn s (fault t)
-      fails t (begins next c cs e) = recover-stays d callers under (s .stack) (suc (s .steps)) _ (moved next c cs (rw e at a)) (rw e at g)
+      fails : (t : State) → Begun code s t → StaysIn s (fault t)
+      fails t (begins c cs e) = recover-stays d callers under (s .stack) (suc (s .steps)) _ (moved _ c cs (rw e at a)) (rw e at g)
 
-      settles : (t u : State) → Begun s t → Executed t u → StaysIn s (settle u)
-      settles t u (begins next c cs e) (n, (h, w)) = done (change-fine (pops n t) u (moved next c cs (rw e at a)) (rw e at g) h)
+      settles : (t u : State) → Begun code s t → Executed t u → StaysIn s (settle u)
+      settles t u (begins c cs e) (n, (h, w)) = done (change-fine (pops n t) u (moved _ c cs (rw e at a)) (rw e at g) h)
         where
-          done : Fine (pops n (begunIn next (c ∷ cs) s)) u → StaysIn s (settle u)
+          done : Fine (pops n (begunIn (dueIn code s .next) (c ∷ cs) s)) u → StaysIn s (settle u)
           done k = rw (k .same ∙ guarded-values callers _ (s .stack)) at (leave-stays d callers under (u .stack) _ (u .contexts) (k .above) (k .falls))
 
 -- ---- a run

@@ -7,11 +7,13 @@ pub mod Numbered
 pub mod Guarded
 pub mod WithinLimits
 pub mod Inside
-pub mod Composed
 pub mod Throughout
-pub mod Kept
-pub mod KeptRuns
+pub mod OperatorEffects
+pub mod Effects
+pub mod Held
+pub mod HeldRuns
 pub mod Moments
+pub mod Kept
 pub mod JoinedLocal
 pub mod TokenLocal
 pub mod Comments
@@ -19,8 +21,6 @@ pub mod Bodies
 pub mod BodyLocal
 pub mod Readable
 pub mod SoundValues
-pub mod Effects
-pub mod SoundStates
 pub mod Literals
 pub mod TokenRefusals
 pub mod Skeletons

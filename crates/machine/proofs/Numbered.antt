@@ -46,14 +46,14 @@ module _ (code : Code) (s : State) (Q₀ Q : List Context → Type 0) (nil : Q [
       first : (next : ℕ) (c : Context) (cs : List Context) → s .contexts ≡ c ∷ cs → Q₀ (begunIn next (c ∷ cs) s .contexts)
       first next c cs e = head c _ cs refl (rw e at q)
 
-      skips : (t : State) → Begun s t → Q (skipped t .contexts)
-      skips t (begins next c cs e) = skip-keeps Q nil lower _ (s .stack) _ cs (weaker _ (first next c cs e))
+      skips : (t : State) → Begun code s t → Q (skipped t .contexts)
+      skips t (begins c cs e) = skip-keeps Q nil lower (s .stack) _ cs (weaker _ (first _ c cs e))
 
-      fails : (t : State) → Begun s t → Q (fault t .contexts)
-      fails t (begins next c cs e) = recover-keeps Q nil lower (s .stack) _ (weaker _ (first next c cs e))
+      fails : (t : State) → Begun code s t → Q (fault t .contexts)
+      fails t (begins c cs e) = recover-keeps Q nil lower (s .stack) _ (weaker _ (first _ c cs e))
 
-      settles : (t u : State) → Begun s t → Executed t u → Q (settle u .contexts)
-      settles t u (begins next c cs e) (n, (h, w)) = leave-keeps Q nil lower (u .stack) (u .contexts) (changed-holds (pops n t) u refl (first next c cs e) h)
+      settles : (t u : State) → Begun code s t → Executed t u → Q (settle u .contexts)
+      settles t u (begins c cs e) (n, (h, w)) = leave-keeps Q nil lower (u .stack) (u .contexts) (changed-holds (pops n t) u refl (first _ c cs e) h)
 
 -- ---- a step counts one
 
@@ -70,14 +70,14 @@ pub step-count : (code : Code) (s : State) → ended (s .contexts) ≡ false →
 unfolding begunIn skipped skippedIn fault settle pops
 step-count code s live = step-by code s (λ r. r .steps ≡ suc (s .steps)) Executed live (λ t b. execute-is code _ t) skips fails settles
   where
-    skips : (t : State) → Begun s t → skipped t .steps ≡ suc (s .steps)
-    skips t (begins next c cs e) = refl
+    skips : (t : State) → Begun code s t → skipped t .steps ≡ suc (s .steps)
+    skips t (begins c cs e) = refl
 
-    fails : (t : State) → Begun s t → fault t .steps ≡ suc (s .steps)
-    fails t (begins next c cs e) = refl
+    fails : (t : State) → Begun code s t → fault t .steps ≡ suc (s .steps)
+    fails t (begins c cs e) = refl
 
-    settles : (t u : State) → Begun s t → Executed t u → settle u .steps ≡ suc (s .steps)
-    settles t u (begins next c cs e) (n, (h, w)) = changed-count (pops n t) u h
+    settles : (t u : State) → Begun code s t → Executed t u → settle u .steps ≡ suc (s .steps)
+    settles t u (begins c cs e) (n, (h, w)) = changed-count (pops n t) u h
 
 -- ---- identities
 

@@ -3,7 +3,7 @@
 use Prim.Native.Nat.{ℕ, zero, suc, _+_, _-_, _<_, _≤_}
 use native.Mathlib.Omega.{arith}
 use mathlib.Core.Path.{_≡_, refl}
-use mathlib.Core.List.{List, [], _∷_, _++_}
+use mathlib.Core.List.{List, [], _∷_}
 use lib.Dec.{eqb, leb, lit≤}
 use lib.ListN.{length}
 use lib.Seq.{slice}
@@ -21,6 +21,7 @@ use Rattle.machine.specs.declared.Literal.the-variants.{Figure, Name, Te
 use Rattle.machine.specs.Limits.{mostOpen, mostPages}
 use Rattle.machine.specs.Skeleton.{beginning, ending, opening, closing, roleOf, solid, due, bodyAt, Span, Skeleton, sound, refused, onward, spanOf, endedAt, pageAt, outerBy, pagesFrom, preambleAt, skeletonOf}
 use Rattle.machine.specs.Literal.{Found, found, holdingBy, holdingAt, operatorBy, foundBy, foundAt}
+use Rattle.machine.proofs.Throughout.{All, all-append}
 use Rattle.machine.proofs.JoinedLocal.{View, view}
 use Rattle.machine.proofs.Comments.{never, token-end, operator-beyond, two-bytes, NoComment, none-at, one-at, solid-is, comments-are}
 use Rattle.machine.proofs.Bodies.{Passing, figure, name, text, comment, plain, holding, Passes, stop, more, passing-later, passes-later, parts-of, no-body, body-later, body-long}
@@ -111,12 +112,7 @@ abbrev pub bytesAt : List ℕ → Span → List ℕ
 bytesAt s p = slice (p .start) (p .start + p .len) s
 
 abbrev pub AllWhole : List ℕ → List Span → Type 0
-AllWhole s [] = Unit
-AllWhole s (p ∷ ps) = Whole (bytesAt s p) × AllWhole s ps
-
-one-more : (s : List ℕ) (ps : List Span) (p : Span) → AllWhole s ps → Whole (bytesAt s p) → AllWhole s (ps ++ (p ∷ []))
-one-more s [] p h w = (w, tt)
-one-more s (q ∷ ps) p h w = (h .0, one-more s ps p (h .1) w)
+AllWhole s ps = All (λ p. Whole (bytesAt s p)) ps
 
 span-readable : (s : List ℕ) (k at next : ℕ) → k ≤ mostOpen → bodyAt k s at ≡ Past next → Whole (bytesAt s (spanOf (solid s at) next))
 unfolding spanOf
@@ -146,7 +142,7 @@ pages-sound (suc k) s at spans h = by-token (λ x ps. pages-sound k s x ps) (tok
     by-token ih (read.Operator n next) e =
         either (Sound s) (eqb n opening) _ _
         (λ _. either (Sound s) (leb (length spans) mostPages) _ _
-        (λ _. onward-sound s (bodyAt mostOpen s at) _ (λ x q. ih x _ (one-more s spans (spanOf at x) h (rw (solid-is s at at (none-at (rw e tt))) at (span-readable s mostOpen at x (omega arith) q))))) (λ _. tt))
+        (λ _. onward-sound s (bodyAt mostOpen s at) _ (λ x q. ih x _ (all-append _ spans (spanOf at x ∷ []) h (rw (solid-is s at at (none-at (rw e tt))) at (span-readable s mostOpen at x (omega arith) q), tt)))) (λ _. tt))
         (λ _. either (Sound s) (eqb n ending) _ _ (λ _. either (Sound s) (eqb next (length s)) _ _ (λ _. h) (λ _. tt)) (λ _. tt))
     by-token ih (read.Comment next) e = ih next spans h
     by-token ih (read.Unread refusal place) e = tt

@@ -1,7 +1,7 @@
 -- A step by its kinds, and any number of steps. In order: one step, what it comes to; a run, by its steps. Assumes nothing.
 use Prim.Native.Nat.{ℕ, zero, suc, _+_}
 use native.Mathlib.Nat.{zero-add, suc-add}
-use mathlib.Core.Path.{_≡_, refl}
+use mathlib.Core.Path.{_≡_, refl, sym, subst}
 use mathlib.Core.Bool.{Bool, true, false, cond, not, _&&_}
 use mathlib.Core.List.{List, [], _∷_}
 use mathlib.Core.Option.{Option, none, some}
@@ -18,22 +18,27 @@ use Rattle.machine.proofs.Changes.{OnSome, provided-on, Changed, affect
 -- ---- one step
 
 -- s once its step has begun: the running context is past the literal
-pub data Begun (s : State) : State → Type 0 where
-  begins : (next : ℕ) (c : Context) (cs : List Context) → s .contexts ≡ c ∷ cs → Begun s (begunIn next (c ∷ cs) s)
+pub data Begun (code : Code) (s : State) : State → Type 0 where
+  begins : (c : Context) (cs : List Context) → s .contexts ≡ c ∷ cs → Begun code s (begunIn (dueIn code s .next) (c ∷ cs) s)
 
-pub begun-is : (next : ℕ) (s : State) → ended (s .contexts) ≡ false → Begun s (begun next s)
-unfolding begun ended
-begun-is next s live = pick (s .contexts) refl live
+-- a run that has not ended has a running context
+pub by-contexts : {X : Type 0} (s : State) → ended (s .contexts) ≡ false → ((c : Context) (cs : List Context) → s .contexts ≡ c ∷ cs → X) → X
+unfolding ended
+by-contexts {X} s live f = pick (s .contexts) refl live
   where
-    pick : (cs : List Context) → s .contexts ≡ cs → ended cs ≡ false → Begun s (begunIn next cs s)
+    pick : (cs : List Context) → s .contexts ≡ cs → ended cs ≡ false → X
     pick [] e h = clash h
-    pick (c ∷ cs) e h = begins next c cs e
+    pick (c ∷ cs) e h = f c cs e
+
+begun-is : (code : Code) (s : State) → ended (s .contexts) ≡ false → Begun code s (begun (dueIn code s .next) s)
+unfolding begun
+begun-is code s live = by-contexts s live (λ c cs e. subst (λ (ds : List Context). Begun code s (begunIn (dueIn code s .next) ds s)) (sym e) (begins c cs e))
 
 -- a literal passed over, one that failed, or one that led from t to u with R
 pub step-by : (code : Code) (s : State) (P : State → Type 0) (R : State → State → Type 0) → ended (s .contexts) ≡ false
-    → ((t : State) → Begun s t → OnSome (R t) (execute code (dueIn code s .literal) t))
-    → ((t : State) → Begun s t → P (skipped t)) → ((t : State) → Begun s t → P (fault t))
-    → ((t u : State) → Begun s t → R t u → P (settle u)) → P (step code s)
+    → ((t : State) → Begun code s t → OnSome (R t) (execute code (dueIn code s .literal) t))
+    → ((t : State) → Begun code s t → P (skipped t)) → ((t : State) → Begun code s t → P (fault t))
+    → ((t u : State) → Begun code s t → R t u → P (settle u)) → P (step code s)
 unfolding step stepBy literalStep executed
 step-by code s P R live acts skips fails settles = pick (s .skipping && not (isUnmark0 (f .literal)))
   where
@@ -43,8 +48,8 @@ step-by code s P R live acts skips fails settles = pick (s .skipping && not (isU
     t : State
     t = begun (f .next) s
 
-    b : Begun s t
-    b = begun-is (f .next) s live
+    b : Begun code s t
+    b = begun-is code s live
 
     done : (o : Option State) → OnSome (R t) o → P (executed t o)
     done none h = fails t b

@@ -18,14 +18,14 @@ use Rattle.machine.specs.Promise.{cleared, loadAnswer, Loads, runVerdict
 use Rattle.machine.proofs.Verdicts.{bodiesIn, ran, run-refused, reprinted, reprint-refused, run-loaded}
 use Rattle.machine.proofs.RowsKept.{ran-row, ran-rest, reprinted-row, reprinted-others}
 use Rattle.machine.proofs.SamePage.{preamble-same, page-same, same-row, same-sections, one-changed}
-use mathlib.Core.Bool.{false, true}
+use mathlib.Core.Bool.{true, false}
 use Rattle.machine.specs.declared.Value.{Value}
-use Rattle.machine.specs.declared.Value.the-variants.{Operator}
+use Rattle.machine.specs.declared.Value.the-variants.{Vector, Operator}
 use Rattle.machine.specs.Engine.{values, kept}
 use Rattle.machine.specs.Isolation.{codeAt, startAt, moment, member, Protected, Bounded}
 use Rattle.machine.proofs.Guarded.{moments-protected}
-use Rattle.machine.proofs.Kept.{Sound}
-use Rattle.machine.proofs.Moments.{start-good, moment-bounded, moment-sound, top-kept}
+use Rattle.machine.proofs.Moments.{start-good, moment-bounded}
+use Rattle.machine.proofs.Kept.{Sound, moment-sound, top-kept, second-kept}
 use Rattle.machine.specs.Page.{preambleOf, pageEnd, bodiesOf}
 use Rattle.machine.specs.Cases.{cases, failures}
 use Rattle.machine.proofs.CaseTable.{no-failures}
@@ -151,12 +151,19 @@ pub bounded : (allowance : ℕ) (bodies : List (List ℕ)) (n i : ℕ) → Bound
 bounded = moment-bounded
 
 -- THEOREM (demand 2). An operator value on top of the stack has its frame among the cells and its body in its origin's bytes, so the test
--- in `call` never fails; `all-kept` says it of every operator value wherever it stands.
+-- in `call` never fails.
 pub calls-kept : (allowance : ℕ) (bodies : List (List ℕ)) (n i : ℕ) (origin start len first : ℕ) (rest : List Value)
     → values (moment allowance bodies n i) ≡ Operator origin start len first ∷ rest
     → kept (codeAt bodies n) origin start len first (moment allowance bodies n i .cells) ≡ true
 calls-kept allowance bodies n i origin start len first rest = top-kept (codeAt bodies n) (moment allowance bodies n i) origin start len first rest (moment-sound allowance bodies n i)
 
+-- THEOREM (demand 2). A vector that GET is given has its elements among the cells, so GET never meets the default of `getD`.
+pub elements-kept : (allowance : ℕ) (bodies : List (List ℕ)) (n i : ℕ) (index : Value) (first lower count : ℕ) (rest : List Value)
+    → values (moment allowance bodies n i) ≡ index ∷ Vector first lower count ∷ rest → first + count ≤ length (moment allowance bodies n i .cells)
+elements-kept allowance bodies n i index first lower count rest =
+    second-kept (codeAt bodies n) (moment allowance bodies n i) index first lower count rest (moment-sound allowance bodies n i)
+
+-- THEOREM (demand 2). The same of every operator and vector, wherever it stands: on the stack, in a frame, in a cell.
 pub all-kept : (allowance : ℕ) (bodies : List (List ℕ)) (n i : ℕ) → Sound (codeAt bodies n) (moment allowance bodies n i)
 all-kept = moment-sound
 
