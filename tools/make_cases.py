@@ -5,6 +5,7 @@ A line of a source is a case: `name`; `call`, one of those below; `in`; `want`. 
   ["readback"]  in: the bytes in hex. want: {"tokens": [words], "text": hex}, or "refused N at P".
   ["write"]     in: {"words": [..], "text": hex, "buf": length}; "list", the list's bytes in hex, may stand for "words".
                 want: the written bytes in hex, or "refused N at P".
+  ["load"]      in: the bytes in hex. want: the page count, or "refused N at P".
 From a case whose call is done come more, by themselves: tables longer than needed, whose rest must stay, and tables one byte short.
 
 A record of the data file: its own length; call; name; number and value of the answer; input; text; lengths of the two tables lent;
@@ -14,7 +15,7 @@ import glob, json, os, re, sys
 
 ROOT = os.path.join(os.path.dirname(os.path.abspath(__file__)), '..')
 DATA = os.path.join(ROOT, 'crates', 'cases', 'data', 'cases')
-READ_BACK, WRITE = 1, 2
+READ_BACK, WRITE, LOAD = 1, 2, 3
 TABLE_TOO_SHORT, NO_ROOM = 11, 16
 SPARE = 7
 
@@ -76,7 +77,13 @@ def write(case):
     ]
 
 
-CALLS = {'readback': read_back, 'write': write}
+def load(case):
+    refused = refusal(case['want'])
+    answer = refused if refused else (0, int(case['want']))
+    return [record(LOAD, case['name'], answer, bytes.fromhex(case['in']), b'', (SPARE, SPARE), (b'', b''))]
+
+
+CALLS = {'readback': read_back, 'write': write, 'load': load}
 
 
 def made():

@@ -108,7 +108,7 @@ fn answers(outcome: Outcome, number: usize, value: usize) -> bool {
     tokens::refusals::answer_value(outcome) == value
 }
 
-// The call of a case: 1 reads back, any other writes.
+// The call of a case: 1 reads back, 3 loads, any other writes.
 fn answer_of(
     call: usize,
     given: &[u8],
@@ -118,6 +118,9 @@ fn answer_of(
 ) -> Outcome {
     if call == 1 {
         return lists::back::read_back(given, first, second);
+    }
+    if call == 3 {
+        return skeleton::pages::load(given);
     }
     lists::writing::write(given, text, first)
 }

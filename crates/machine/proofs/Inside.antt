@@ -63,7 +63,7 @@ unfolding solidFrom
 solid-from zero s at = le-refl _
 solid-from (suc k) s at = past-comment (length s) at (tokenAt s at) (solidFrom k s) (token-inside s at) (λ p. solid-from k s p)
 
-solid-past : (s : List ℕ) (at : ℕ) → at ≤ solid s at
+pub solid-past : (s : List ℕ) (at : ℕ) → at ≤ solid s at
 unfolding solid
 solid-past s at = solid-from (length s) s at
 
@@ -74,7 +74,7 @@ abbrev pub WentIn : ℕ → ℕ → Went → Type 0
 WentIn n low (Past next) = Spans n low next
 WentIn n low (Stop refusal place) = Unit
 
-abbrev PassedIn : ℕ → ℕ → Passed → Type 0
+abbrev pub PassedIn : ℕ → ℕ → Passed → Type 0
 PassedIn n low (On next) = Spans n low next
 PassedIn n low (Closed next) = Spans n low next
 PassedIn n low (Bad refusal place) = Unit
@@ -130,7 +130,7 @@ due-by n m at (Operator k next) h = either (WentIn n at) (eqb k m) _ _ (λ _. h)
 due-by n m at (Comment next) h = tt
 due-by n m at (Unread refusal place) h = tt
 
-due-inside : (m : ℕ) (s : List ℕ) (at : ℕ) → WentIn (length s) (solid s at) (due m s at)
+pub due-inside : (m : ℕ) (s : List ℕ) (at : ℕ) → WentIn (length s) (solid s at) (due m s at)
 unfolding due
 due-inside m s at = due-by (length s) m (solid s at) (tokenAt s (solid s at)) (token-inside s (solid s at))
 
@@ -147,6 +147,13 @@ body-inside (suc k) s at =
     follow-inside (length s) _ (solid s at) (due opening s at) rest (due-inside opening s at)
     (λ p h. went-lower (length s) (solid s at + 1) p (rest p) (omega arith)
     (literals-of s (bodyAt k s) (λ r. went-lower (length s) r (solid s r + 1) (bodyAt k s r) (omega (arith, solid-past s r)) (body-inside k s r)) p))
+
+-- so is a body from any place before its `{`, and a literal in which k bodies may be open
+pub body-later : (k : ℕ) (s : List ℕ) (at : ℕ) → WentIn (length s) at (bodyAt k s at)
+body-later k s at = went-lower (length s) at (solid s at + 1) (bodyAt k s at) (omega (arith, solid-past s at)) (body-inside k s at)
+
+pub literal-later : (k : ℕ) (s : List ℕ) (at : ℕ) → PassedIn (length s) at (literalBy at (bodyAt k s) (tokenAt s at))
+literal-later k s at = literal-inside (length s) at (bodyAt k s) (body-later k s) (tokenAt s at) (token-inside s at)
 
 -- ---- the literal at a place
 

@@ -20,7 +20,7 @@ use Rattle.machine.specs.Limits.{mostPages, mostSteps, scratchSize, rows
 use Rattle.machine.specs.Skeleton.{Skeleton, sound, refused, skeletonOf}
 use Rattle.machine.specs.Step.{outcome}
 use Rattle.machine.specs.Page.{bodiesOf, preambleOf, preambleEnd, resultAt, rowBytes, rowsOf, sectionBytes}
-use Rattle.machine.specs.Promise.{Verdict, accepted, unfinished, halted, onSound, allowed, admitted, finished, over, spliced, cleared, scratchLeaves, loadAnswer, runVerdict, runAnswer, rowsLeaves, Runs, paged, reprintVerdict, reprintAnswer, rowLeaves, sectionsLeaves, Reprints}
+use Rattle.machine.specs.Promise.{Verdict, accepted, unfinished, halted, onSound, allowed, admitted, finished, over, spliced, cleared, scratchLeaves, pagesIn, loadAnswer, runVerdict, runAnswer, rowsLeaves, Runs, paged, reprintVerdict, reprintAnswer, rowLeaves, sectionsLeaves, Reprints}
 use Rattle.machine.proofs.Skeletons.{Fits, skeleton-fits}
 
 -- ---- the bodies of a master
@@ -196,7 +196,7 @@ module _ (s : List ℕ) (n : ℕ) (scratch rows : List ℕ) where
 
   pub run-loaded : (c : ℕ) → loadAnswer s ≡ Done c → scratchSize ≤ length scratch → rowsSize ≤ length rows → 1 ≤ n → n ≤ mostSteps
       → (runAnswer (runVerdict s (pos n) scratch rows) ≡ Done c) ⊎ (runAnswer (runVerdict s (pos n) scratch rows) ≡ Refused PreambleUnfinished 0)
-  unfolding loadAnswer runVerdict admitted allowed onSound bodiesOf
+  unfolding pagesIn loadAnswer runVerdict admitted allowed onSound bodiesOf
   run-loaded c q x y l m =
       by-test (leb (length s) longest)
       (λ e. by (skeletonOf s) refl e)

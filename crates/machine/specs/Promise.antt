@@ -68,12 +68,14 @@ scratchLeaves (halted refusal place) scratch = scratch
 
 -- ---- load
 
+-- the pages, without the preamble
+unfoldable pub pagesIn : Skeleton → Outcome
+pagesIn (sound spans) = Done (length spans - 1)
+pagesIn (refused refusal place) = Refused refusal place
+
+-- "answers its page count"
 unfoldable pub loadAnswer : List ℕ → Outcome
-loadAnswer s = cond (leb (length s) longest) (counted (skeletonOf s)) (Refused TooLong 0)
-  where
-    counted : Skeleton → Outcome
-    counted (sound spans) = Done (length spans - 1)
-    counted (refused refusal place) = Refused refusal place
+loadAnswer s = cond (leb (length s) longest) (pagesIn (skeletonOf s)) (Refused TooLong 0)
 
 pub record Loads (s : List ℕ) (r : Outcome) : Type 0 where
   pub answer : r ≡ loadAnswer s

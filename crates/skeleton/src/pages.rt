@@ -1,0 +1,137 @@
+// The master around its bodies, and `load`. In order: a token where a page or END is due; all of them; the skeleton; load.
+ghost use mathlib.Core.Path.{_≡_};
+ghost use mathlib.Core.List.{[], _∷_};
+ghost use lib.ListN.{length};
+ghost use Rattle.tokens.specs.declared.Refusal.the-variants.{NotAllowed};
+ghost use Rattle.tokens.specs.declared.Outcome.the-variants.{Refused};
+ghost use Rattle.machine.specs.Skeleton.{Span, pagesFrom, preambleAt, skeletonOf};
+ghost use Rattle.machine.specs.Promise.{pagesIn, Loads};
+ghost use Rattle.skeleton.specs.declared.Turn.the-variants.{Halt};
+ghost use Rattle.skeleton.specs.Turns.{pageTurn, endTurn, turnAt};
+use crate::Turn;
+use crate::bodies;
+use machine::Went;
+use tokens::Outcome;
+use tokens::Read;
+
+fn page_turn(s: &[u8], had: usize, at: usize) -> Turn
+    ensures { λ r. ⌜ r ≡ pageTurn (now (s .entry)) had at ⌝ }
+{
+    if 512 < had {
+        return Turn::Halt {
+            refusal: tokens::Refusal::TooManyPages,
+            place: at,
+        };
+    }
+    match bodies::body(s, at, 16) {
+        Went::Past { next } => Turn::Page { next },
+        Went::Stop { refusal, place } => Turn::Halt { refusal, place },
+    }
+}
+
+fn end_turn(s: &[u8], next: usize) -> Turn
+    ensures { λ r. ⌜ r ≡ endTurn (now (s .entry)) next ⌝ }
+{
+    if next == s.len() {
+        Turn::Ended
+    } else {
+        Turn::Halt {
+            refusal: tokens::Refusal::AfterEnd,
+            place: next,
+        }
+    }
+}
+
+fn barred_turn(place: usize) -> Turn
+    ensures { λ r. ⌜ r ≡ Halt NotAllowed place ⌝ }
+{
+    Turn::Halt {
+        refusal: tokens::Refusal::NotAllowed,
+        place,
+    }
+}
+
+// The token at `at`, where a page or END is due and `had` bodies have been read.
+pub fn turn(s: &[u8], had: usize, at: usize) -> Turn
+    ensures { λ r. ⌜ r ≡ turnAt (now (s .entry)) had at ⌝ }
+{
+    match tokens::reading::read_token(s, at) {
+        Read::Operator { number, next } => {
+            if number == 106 {
+                return page_turn(s, had, at);
+            }
+            if number == 103 {
+                return end_turn(s, next);
+            }
+            barred_turn(at)
+        }
+        Read::Comment { next } => Turn::Aside { next },
+        Read::Number { value: _, next: _ } => barred_turn(at),
+        Read::Identifier { len: _, next: _ } => barred_turn(at),
+        Read::String { count: _, next: _ } => barred_turn(at),
+        Read::Unread { refusal, place } => Turn::Halt { refusal, place },
+    }
+}
+
+fn refused(refusal: tokens::Refusal, place: usize) -> Outcome
+    ensures { λ r. ⌜ r ≡ Refused refusal place ⌝ }
+{
+    Outcome::Refused { refusal, place }
+}
+
+// Pages from `at` on, past the preamble, to the end: how many.
+fn pages(s: &[u8], at: usize) -> Outcome
+    ensures { λ r. ⌜ ((p : Span) → r ≡ pagesIn (pagesFrom (length (now (s .entry))) (now (s .entry)) at (p ∷ []))) ⌝ }
+{
+    let mut p = at;
+    let mut had: usize = 1;
+    loop {
+        match turn(s, had, p) {
+            Turn::Aside { next } => {
+                p = next;
+            }
+            Turn::Page { next } => {
+                p = next;
+                had += 1;
+            }
+            Turn::Ended => {
+                return Outcome::Done { value: had - 1 };
+            }
+            Turn::Halt { refusal, place } => {
+                return refused(refusal, place);
+            }
+        }
+    }
+}
+
+// The preamble, whose `{` is due from `at` on, and the pages.
+fn preamble_on(s: &[u8], at: usize) -> Outcome
+    ensures { λ r. ⌜ r ≡ pagesIn (preambleAt (now (s .entry)) at) ⌝ }
+{
+    match bodies::body(s, at, 16) {
+        Went::Past { next } => pages(s, next),
+        Went::Stop { refusal, place } => refused(refusal, place),
+    }
+}
+
+fn check(s: &[u8]) -> Outcome
+    ensures { λ r. ⌜ r ≡ pagesIn (skeletonOf (now (s .entry))) ⌝ }
+{
+    if !tokens::header::starts_with(b"Interpress/Xerox/3.0 ", s) {
+        return refused(tokens::Refusal::BadHeader, 0);
+    }
+    match bodies::due_from(102, s, 21) {
+        Went::Past { next } => preamble_on(s, next),
+        Went::Stop { refusal, place } => refused(refusal, place),
+    }
+}
+
+// Checks a master and answers its page count.
+pub fn load(s: &[u8]) -> Outcome
+    ensures { λ r. ⌜ Loads (now (s .entry)) r ⌝ }
+{
+    if 16777215 < s.len() {
+        return refused(tokens::Refusal::TooLong, 0);
+    }
+    check(s)
+}
