@@ -1,18 +1,20 @@
 -- `bodies::body` and `bodies::literal`, which call each other, meet their contracts: the bytes left fall at each call, and in the loop over
 -- a body's literals the literals from here on end as all of them do. Assumes nothing.
-use Rattle.skeleton.proofs.Turning.{literalAt, turn, due-is, stopped, full, entered}
+use mathlib.Core.Path.{_≡_, sym, ap, _∙_}
+use Prim.Native.Nat.{ℕ, _+_, _-_, _≤_, _<_}
+use native.Mathlib.Omega.{arith}
+use lib.ListN.{length}
+use borrow.Author.Needs.{needs}
+use borrow.Fn.Kinds.{In}
+use borrow.Fn.PlainCycle.{Measures, is, falls, and}
+use Rattle.tokens.specs.declared.Refusal.the-variants.{TooDeep}
+use Rattle.tokens.specs.declared.Read.the-variants.{Operator}
+use Rattle.tokens.proofs.reading.read_token.Reads as read-token-reads
 use Rattle.machine.proofs.Inside.{WentIn, PassedIn, EndsIn, token-inside, due-inside, solid-past, literal-later}
 use Rattle.machine.specs.Skeleton.{opening, solid, literalsFrom, literalBy, passing, held, andThen, bodyAt}
 use Rattle.machine.specs.declared.Went.the-variants.{Past, Stop}
-use Rattle.tokens.specs.declared.Refusal.the-variants.{TooDeep}
-use Rattle.tokens.specs.declared.Read.the-variants.{Operator}
-use lib.ListN.{length}
-use borrow.Author.Needs.{needs}
-use native.Mathlib.Omega.{arith}
-use Prim.Native.Nat.{ℕ, _+_, _-_, _≤_, _<_}
-use mathlib.Core.Path.{_≡_, sym, ap, _∙_}
-use borrow.Fn.Kinds.{In}
-use borrow.Fn.PlainCycle.{Measures, is, falls, and}
+use Rattle.machine.specs.declared.Passed.the-variants as passed
+use Rattle.skeleton.proofs.BodyTurns.{literalAt, turn, due-is, stopped, full, entered}
 use Rattle.skeleton.proofs.bodies.body.Reads as body
 use Rattle.skeleton.proofs.bodies.body.Kinds as body-kinds
 use Rattle.skeleton.proofs.bodies.+body+literal.Lts-body as body-lts
@@ -22,8 +24,6 @@ use Rattle.skeleton.proofs.bodies.+body+literal.Lts-literal as literal-
 use Rattle.skeleton.proofs.bodies.due_here.Reads as due-here-reads
 use Rattle.skeleton.proofs.bodies.past_comments.Reads as past-comments-reads
 use Rattle.skeleton.proofs.roles.role_of.Reads as role-of-reads
-use Rattle.tokens.proofs.reading.read_token.Reads as read-token-reads
-use Rattle.machine.specs.declared.Passed.the-variants as passed
 use Rattle.skeleton.proofs.bodies.+body+literal.{statement}
 use Rattle.skeleton.proofs.bodies.+body+literal.Tie.{close}
 

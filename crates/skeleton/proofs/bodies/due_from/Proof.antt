@@ -1,7 +1,7 @@
 -- `bodies::due_from` meets its contract: comments, then the operator. Assumes nothing.
-use Rattle.skeleton.proofs.Turning.{due-is}
 use mathlib.Core.Path.{sym}
 use borrow.Author.Needs.{needs}
+use Rattle.skeleton.proofs.BodyTurns.{due-is}
 use Rattle.skeleton.proofs.bodies.due_from.Statement.{statement}
 use Rattle.skeleton.proofs.bodies.due_from.Tie as tie
 

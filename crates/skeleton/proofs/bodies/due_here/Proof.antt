@@ -1,7 +1,7 @@
 -- `bodies::due_here` meets its contract: the token, case by case. Assumes nothing.
-use Rattle.machine.specs.Skeleton.{dueBy}
 use borrow.Author.Tests.{eq-eqb, ne-eqb}
 use borrow.Author.Needs.{needs}
+use Rattle.machine.specs.Skeleton.{dueBy}
 use Rattle.skeleton.proofs.bodies.due_here.Statement.{statement}
 use Rattle.skeleton.proofs.bodies.due_here.Tie as tie
 

@@ -1,13 +1,13 @@
 -- `bodies::past_comments` meets its contract: passing comments from here ends where passing them from the start does. Assumes nothing.
-use Rattle.skeleton.proofs.Turning.{past}
-use Rattle.machine.proofs.Inside.{EndsIn, token-inside}
-use Rattle.machine.specs.Skeleton.{pastComment, solidFrom, solid}
-use Rattle.tokens.specs.declared.Read.the-variants.{Comment}
+use mathlib.Core.Path.{_≡_, refl, sym, _∙_}
+use Prim.Native.Nat.{ℕ, _+_, _-_, _≤_}
+use native.Mathlib.Omega.{arith}
 use lib.ListN.{length}
 use borrow.Author.Needs.{needs}
-use native.Mathlib.Omega.{arith}
-use Prim.Native.Nat.{ℕ, _+_, _-_, _≤_}
-use mathlib.Core.Path.{_≡_, refl, sym, _∙_}
+use Rattle.tokens.specs.declared.Read.the-variants.{Comment}
+use Rattle.machine.proofs.Inside.{EndsIn, token-inside}
+use Rattle.machine.specs.Skeleton.{pastComment, solidFrom, solid}
+use Rattle.skeleton.proofs.BodyTurns.{past, stands}
 use Rattle.skeleton.proofs.bodies.past_comments.Statement.{statement}
 use Rattle.skeleton.proofs.bodies.past_comments.Tie as tie
 
@@ -37,38 +37,20 @@ loop-again c =
     let i = c .before .before .before .before .loop .inv in
     (i .0 - 1, omega (arith, g .0, g .1, i .1), rw (← c .before .before .before .read-token .ensures, c .before .next .given .1) at (sym (past (i .0) (a .s .now) p (i .1)) ∙ i .2))
 
-enum-told : tie.Need-enum-told Inv-loop μ-loop
-enum-told c = search needs
-
 returns : tie.Need-returns Inv-loop μ-loop
-unfolding pastComment
-returns c =
-    let i = c .before .before .before .loop .inv in
-    rw (← c .before .before .read-token .ensures, c .enum-told .given .1) at (sym (past (i .0) (c .before .before .before .before .before .args .s .now) (c .before .before .before .loop .p) (i .1)) ∙ i .2)
+returns c = let l = c .before .before .before .loop in stands (l .inv .0) _ (l .p) _ _ (l .inv .1) (l .inv .2) (sym (c .before .before .read-token .ensures) ∙ c .enum-told .given .1) tt
 
 returns-2 : tie.Need-returns-2 Inv-loop μ-loop
-unfolding pastComment
-returns-2 c =
-    let i = c .before .before .before .loop .inv in
-    rw (← c .before .before .read-token .ensures, c .enum-told2 .given .1) at (sym (past (i .0) (c .before .before .before .before .before .args .s .now) (c .before .before .before .loop .p) (i .1)) ∙ i .2)
+returns-2 c = let l = c .before .before .before .loop in stands (l .inv .0) _ (l .p) _ _ (l .inv .1) (l .inv .2) (sym (c .before .before .read-token .ensures) ∙ c .enum-told2 .given .1) tt
 
 returns-3 : tie.Need-returns-3 Inv-loop μ-loop
-unfolding pastComment
-returns-3 c =
-    let i = c .before .before .before .loop .inv in
-    rw (← c .before .before .read-token .ensures, c .enum-told3 .given .1) at (sym (past (i .0) (c .before .before .before .before .before .args .s .now) (c .before .before .before .loop .p) (i .1)) ∙ i .2)
+returns-3 c = let l = c .before .before .before .loop in stands (l .inv .0) _ (l .p) _ _ (l .inv .1) (l .inv .2) (sym (c .before .before .read-token .ensures) ∙ c .enum-told3 .given .1) tt
 
 returns-4 : tie.Need-returns-4 Inv-loop μ-loop
-unfolding pastComment
-returns-4 c =
-    let i = c .before .before .before .loop .inv in
-    rw (← c .before .before .read-token .ensures, c .enum-told4 .given .1) at (sym (past (i .0) (c .before .before .before .before .before .args .s .now) (c .before .before .before .loop .p) (i .1)) ∙ i .2)
+returns-4 c = let l = c .before .before .before .loop in stands (l .inv .0) _ (l .p) _ _ (l .inv .1) (l .inv .2) (sym (c .before .before .read-token .ensures) ∙ c .enum-told4 .given .1) tt
 
 returns-5 : tie.Need-returns-5 Inv-loop μ-loop
-unfolding pastComment
-returns-5 c =
-    let i = c .before .before .before .loop .inv in
-    rw (← c .before .before .read-token .ensures, c .enum-told5 .given .1) at (sym (past (i .0) (c .before .before .before .before .before .args .s .now) (c .before .before .before .loop .p) (i .1)) ∙ i .2)
+returns-5 c = let l = c .before .before .before .loop in stands (l .inv .0) _ (l .p) _ _ (l .inv .1) (l .inv .2) (sym (c .before .before .read-token .ensures) ∙ c .enum-told5 .given .1) tt
 
 pub past-comments-spec : {M : Type 1} → statement M
 past-comments-spec =
@@ -81,7 +63,7 @@ past-comments-spec =
     (λ c. search needs)
     loop-less
     loop-again
-    enum-told
+    (λ c. search needs)
     returns
     (λ c. search needs)
     returns-2

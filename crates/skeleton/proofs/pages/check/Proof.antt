@@ -1,9 +1,9 @@
 -- `pages::check` meets its contract: the header, BEGIN, then the preamble and the pages. Assumes nothing.
-use Rattle.tokens.specs.Format.{header}
-use Rattle.skeleton.proofs.Turning.{headless, begun, not-begun}
-use borrow.Author.Tests.{not-true, not-false}
 use mathlib.Core.Path.{sym, _∙_}
+use borrow.Author.Tests.{not-true, not-false}
 use borrow.Author.Needs.{needs}
+use Rattle.tokens.specs.Format.{header}
+use Rattle.skeleton.proofs.PageTurns.{headless, begun, not-begun}
 use Rattle.skeleton.proofs.pages.check.Statement.{statement}
 use Rattle.skeleton.proofs.pages.check.Tie as tie
 

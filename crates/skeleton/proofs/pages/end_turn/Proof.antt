@@ -1,6 +1,6 @@
 -- `pages::end_turn` meets its contract. Assumes nothing.
-use Rattle.skeleton.specs.Turns.{endTurn}
 use borrow.Author.Tests.{eq-eqb, ne-eqb}
+use Rattle.skeleton.specs.Turns.{endTurn}
 use Rattle.skeleton.proofs.pages.end_turn.Statement.{statement}
 use Rattle.skeleton.proofs.pages.end_turn.Tie as tie
 

@@ -1,11 +1,11 @@
 -- `pages::load` meets its promise: the length, then the skeleton. Assumes nothing.
-use lib.ListN.{length}
-use Rattle.machine.specs.Promise.{loadAnswer}
-use Rattle.tokens.specs.Format.{longest}
-use borrow.Author.Tests.{lt-leb, le-leb}
-use native.Mathlib.Omega.{arith}
 use mathlib.Core.Path.{_∙_}
+use native.Mathlib.Omega.{arith}
+use lib.ListN.{length}
+use borrow.Author.Tests.{lt-leb, le-leb}
 use borrow.Author.Needs.{needs}
+use Rattle.tokens.specs.Format.{longest}
+use Rattle.machine.specs.Promise.{loadAnswer}
 use Rattle.skeleton.proofs.pages.load.Statement.{statement}
 use Rattle.skeleton.proofs.pages.load.Tie as tie
 

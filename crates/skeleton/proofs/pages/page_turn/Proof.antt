@@ -1,8 +1,8 @@
 -- `pages::page_turn` meets its contract: the count of bodies, then the body. Assumes nothing.
-use Rattle.skeleton.proofs.Turning.{page-many, page-read, page-bad}
 use mathlib.Core.Path.{sym, _∙_}
 use native.Mathlib.Omega.{arith}
 use borrow.Author.Needs.{needs}
+use Rattle.skeleton.proofs.PageTurns.{page-many, page-read, page-bad}
 use Rattle.skeleton.proofs.pages.page_turn.Statement.{statement}
 use Rattle.skeleton.proofs.pages.page_turn.Tie as tie
 

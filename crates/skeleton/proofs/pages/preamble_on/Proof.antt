@@ -1,7 +1,7 @@
 -- `pages::preamble_on` meets its contract: the preamble, then the pages. Assumes nothing.
-use Rattle.skeleton.proofs.Turning.{preamble-read, preamble-bad}
 use mathlib.Core.Path.{sym, _∙_}
 use borrow.Author.Needs.{needs}
+use Rattle.skeleton.proofs.PageTurns.{preamble-read, preamble-bad}
 use Rattle.skeleton.proofs.pages.preamble_on.Statement.{statement}
 use Rattle.skeleton.proofs.pages.preamble_on.Tie as tie
 

@@ -1,7 +1,7 @@
 -- `pages::turn` meets its contract: the token, case by case. Assumes nothing.
-use Rattle.skeleton.specs.Turns.{turnBy, turnAt}
 use borrow.Author.Tests.{eq-eqb, ne-eqb}
 use borrow.Author.Needs.{needs}
+use Rattle.skeleton.specs.Turns.{turnBy, turnAt}
 use Rattle.skeleton.proofs.pages.turn.Statement.{statement}
 use Rattle.skeleton.proofs.pages.turn.Tie as tie
 

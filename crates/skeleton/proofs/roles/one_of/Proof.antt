@@ -1,16 +1,16 @@
 -- `roles::one_of` meets its contract: none of the numbers before i is n, so the rest decides. Assumes nothing.
-use Rattle.machine.specs.Skeleton.{oneOf}
+use mathlib.Core.Bool.{false, _||_}
+use mathlib.Core.List.{List}
+use mathlib.Core.Path.{_≡_, refl, sym}
+use Prim.Native.Nat.{ℕ, _+_, _-_, _≤_, _<_}
+use native.Mathlib.Numerals.{add-one}
+use native.Mathlib.Omega.{arith}
 use lib.Seq.{drop-cons, drop-length}
 use lib.ListN.{length, getD, drop}
 use lib.Dec.{eqb}
-use mathlib.Core.Bool.{false, _||_}
-use mathlib.Core.List.{List}
-use native.Mathlib.Numerals.{add-one}
 use borrow.Author.Tests.{eq-eqb, ne-eqb}
 use borrow.Author.Needs.{needs}
-use native.Mathlib.Omega.{arith}
-use Prim.Native.Nat.{ℕ, _+_, _-_, _≤_, _<_}
-use mathlib.Core.Path.{_≡_, refl, sym}
+use Rattle.machine.specs.Skeleton.{oneOf}
 use Rattle.skeleton.proofs.roles.one_of.Statement.{statement}
 use Rattle.skeleton.proofs.roles.one_of.Tie as tie
 

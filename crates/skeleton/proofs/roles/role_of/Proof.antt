@@ -1,7 +1,7 @@
 -- `roles::role_of` meets its contract: the tests in the definition's order. Assumes nothing.
-use Rattle.machine.specs.Skeleton.{roleOf}
 use borrow.Author.Tests.{eq-eqb, ne-eqb}
 use borrow.Author.Needs.{needs}
+use Rattle.machine.specs.Skeleton.{roleOf}
 use Rattle.skeleton.proofs.roles.role_of.Statement.{statement}
 use Rattle.skeleton.proofs.roles.role_of.Tie as tie
 

@@ -1,74 +1,35 @@
--- The loops of the skeleton, a turn at a time: comments, the literals of a body, the pages; then the answer by what was read. In order so.
--- Assumes nothing.
-use mathlib.Core.Path.{_≡_, refl, sym, _∙_}
+-- The loop over pages, a turn at a time, and the answer by what was read. In order: a turn; the count of pages; the master. Assumes nothing.
+use mathlib.Core.Path.{_≡_, refl, sym, ap, _∙_}
 use mathlib.Core.Bool.{Bool, true, false, cond}
 use mathlib.Core.List.{List, [], _∷_, _++_}
 use Prim.Native.Nat.{ℕ, zero, suc, _+_, _-_, _<_, _≤_}
 use native.Mathlib.Omega.{arith}
 use lib.Dec.{eqb, leb}
+use lib.ListN.{length, length-append}
 use borrow.Author.Tests.{lt-leb, le-leb}
-use lib.ListN.{length}
 use Rattle.tokens.specs.declared.Read.{Read}
 use Rattle.tokens.specs.declared.Read.the-variants.{Number, Identifier, String, Operator, Comment, Unread}
 use Rattle.tokens.specs.declared.Refusal.{Refusal}
-use Rattle.tokens.specs.declared.Refusal.the-variants.{BadHeader, TooDeep, TooManyPages}
-use Rattle.tokens.specs.declared.Outcome.the-variants.{Refused}
+use Rattle.tokens.specs.declared.Refusal.the-variants.{BadHeader, TooManyPages}
+use Rattle.tokens.specs.declared.Outcome.the-variants.{Done, Refused}
 use Rattle.tokens.specs.Format.{header, starts}
 use Rattle.tokens.specs.Token.{tokenAt}
 use Rattle.tokens.proofs.Theorems.{token-end}
 use Rattle.tokens.proofs.Cond.{either}
 use Rattle.machine.specs.declared.Went.{Went}
 use Rattle.machine.specs.declared.Went.the-variants.{Past, Stop}
-use Rattle.machine.specs.declared.Passed.{Passed}
 use Rattle.machine.specs.Limits.{mostOpen, mostPages}
-use Rattle.machine.specs.Skeleton.{Span, Skeleton, sound, refused, beginning, opening, ending, pastComment, solidFrom, solid, follow, andThen, dueBy, due, literalBy, literalsFrom, bodyAt, onward, spanOf, endedAt, pageAt, outerBy, pagesFrom, preambleAt, skeletonOf}
+use Rattle.machine.specs.Skeleton.{Span, Skeleton, sound, refused, beginning, opening, ending, solid, due, bodyAt, onward, spanOf, endedAt, pageAt, outerBy, pagesFrom, preambleAt, skeletonOf}
 use Rattle.machine.specs.Promise.{pagesIn}
 use Rattle.machine.proofs.Inside.{WentIn, token-inside, EndsIn, body-later}
 use Rattle.skeleton.specs.declared.Turn.{Turn}
 use Rattle.skeleton.specs.declared.Turn.the-variants.{Aside, Page, Ended, Halt}
 use Rattle.skeleton.specs.Turns.{pageOr, pageTurn, endTurn, turnBy, turnAt}
 
--- ---- comments
-
-pub past : (k : ℕ) (s : List ℕ) (p : ℕ) → length s ≤ p + k → solidFrom k s p ≡ pastComment (tokenAt s p) p (solidFrom (k - 1) s)
-unfolding solidFrom pastComment
-past zero s p h = rw (token-end s p (omega arith))
-past (suc k) s p h = let e : suc k - 1 ≡ k = omega arith in rw e
-
--- ---- the literals of a body
-
--- the literal of a body in which m more may be open
-abbrev pub literalAt : ℕ → List ℕ → ℕ → Passed
-literalAt m s p = literalBy p (bodyAt m s) (tokenAt s p)
-
--- one turn, where there is room for k literals and that is enough for what is left
-pub turn : (m k : ℕ) (s : List ℕ) (p : ℕ) → length s ≤ p + k → literalsFrom k (literalAt m s) p ≡ andThen (literalAt m s p) (literalsFrom (k - 1) (literalAt m s))
-unfolding literalsFrom literalBy andThen
-turn m zero s p h = rw (token-end s p (omega arith))
-turn m (suc k) s p h = let e : suc k - 1 ≡ k = omega arith in rw e
-
-pub due-is : (n : ℕ) (s : List ℕ) (at q : ℕ) (w : Went) → q ≡ solid s at → w ≡ dueBy n q (tokenAt s q) → due n s at ≡ w
-unfolding due
-due-is n s at q w e f = rw (f, e)
-
-pub stopped : (left : ℕ) (s : List ℕ) (at : ℕ) (w : Refusal) (place : ℕ) → due opening s at ≡ Stop w place → Stop w place ≡ bodyAt left s at
-unfolding bodyAt follow
-stopped zero s at w place e = rw e
-stopped (suc k) s at w place e = rw e
-
-pub full : (left : ℕ) (s : List ℕ) (at next : ℕ) → due opening s at ≡ Past next → left ≡ 0 → Stop TooDeep (solid s at) ≡ bodyAt left s at
-unfolding bodyAt follow
-full left s at next e h = rw (h, e)
-
-pub entered : (left : ℕ) (s : List ℕ) (at next : ℕ) → due opening s at ≡ Past next → 0 < left → literalsFrom (length s) (literalAt (left - 1) s) next ≡ bodyAt left s at
-unfolding bodyAt follow
-entered zero s at next e h = absurd (omega arith)
-entered (suc k) s at next e h = let f : suc k - 1 ≡ k = omega arith in rw (e, f)
-
--- ---- the pages
+-- ---- a turn
 
 -- what a turn makes of the bodies so far
-unfoldable pub turned : List Span → ℕ → Turn → (ℕ → List Span → Skeleton) → Skeleton
+unfoldable turned : List Span → ℕ → Turn → (ℕ → List Span → Skeleton) → Skeleton
 turned spans at (Aside next) rest = rest next spans
 turned spans at (Page next) rest = rest next (spans ++ (spanOf at next ∷ []))
 turned spans at Ended rest = sound spans
@@ -103,17 +64,17 @@ module _ (s : List ℕ) (spans : List Span) (at : ℕ) (rest : ℕ → List Span
   outer-turned (Unread refusal place) = refl
 
 -- one turn, where there is room for k tokens and that is enough for what is left
-pub page-turn : (k : ℕ) (s : List ℕ) (at : ℕ) (spans : List Span) → length s ≤ at + k → pagesFrom k s at spans ≡ turned spans at (turnAt s (length spans) at) (pagesFrom (k - 1) s)
+page-turned-by : (k : ℕ) (s : List ℕ) (at : ℕ) (spans : List Span) → length s ≤ at + k → pagesFrom k s at spans ≡ turned spans at (turnAt s (length spans) at) (pagesFrom (k - 1) s)
 unfolding pagesFrom turnAt turned turnBy
-page-turn zero s at spans h = rw (token-end s at (omega arith))
-page-turn (suc k) s at spans h = let e : suc k - 1 ≡ k = omega arith in rw e (outer-turned s spans at (pagesFrom k s) (tokenAt s at))
+page-turned-by zero s at spans h = rw (token-end s at (omega arith))
+page-turned-by (suc k) s at spans h = let e : suc k - 1 ≡ k = omega arith in rw e (outer-turned s spans at (pagesFrom k s) (tokenAt s at))
 
-pub by-turn : (k : ℕ) (s : List ℕ) (p had : ℕ) (spans : List Span) (t : Turn) → length s ≤ p + k → length spans ≡ had → turnAt s had p ≡ t
+by-turn : (k : ℕ) (s : List ℕ) (p had : ℕ) (spans : List Span) (t : Turn) → length s ≤ p + k → length spans ≡ had → turnAt s had p ≡ t
     → pagesFrom k s p spans ≡ turned spans p t (pagesFrom (k - 1) s)
-by-turn k s p had spans t h e f = page-turn k s p spans h ∙ rw (e, f)
+by-turn k s p had spans t h e f = page-turned-by k s p spans h ∙ rw (e, f)
 
 -- reading goes on past where the turn began
-abbrev pub Onward : ℕ → ℕ → Turn → Type 0
+abbrev Onward : ℕ → ℕ → Turn → Type 0
 Onward n at (Aside next) = (at < next) × (next ≤ n)
 Onward n at (Page next) = (at < next) × (next ≤ n)
 Onward n at Ended = Unit
@@ -136,11 +97,64 @@ module _ (n at : ℕ) where
   turn-by s bodies w (Comment next) h = (h .0, h .1)
   turn-by s bodies w (Unread refusal place) h = tt
 
-pub turn-onward : (s : List ℕ) (bodies at : ℕ) → Onward (length s) at (turnAt s bodies at)
+turn-onward : (s : List ℕ) (bodies at : ℕ) → Onward (length s) at (turnAt s bodies at)
 unfolding turnAt
 turn-onward s bodies at = turn-by (length s) at s bodies (body-later mostOpen s at) (tokenAt s at) (token-inside s at)
 
--- ---- the answer, by what was read
+onward-by : (s : List ℕ) (had p : ℕ) (t : Turn) → turnAt s had p ≡ t → Onward (length s) p t
+onward-by s had p t e = rw e at (turn-onward s had p)
+
+-- ---- the count of pages
+
+-- at p, after so many bodies with the preamble's: whatever that one's span is, the count of the pages is what it is from `at` on
+pub record Counting (s : List ℕ) (at p had : ℕ) : Type 0 where
+  pub room : ℕ
+  pub enough : length s ≤ p + room
+  pub few : had ≤ p + 1
+  pub some : 1 ≤ had
+  pub same : (q : Span) → (spans : List Span) × (length spans ≡ had) × (pagesIn (pagesFrom room s p spans) ≡ pagesIn (pagesFrom (length s) s at (q ∷ [])))
+
+pub counting-starts : (s : List ℕ) (at : ℕ) → Counting s at at 1
+counting-starts s at = record { room = length s; enough = omega arith; few = omega arith; some = omega arith; same = λ q. (q ∷ [], refl, refl) }
+
+module _ (s : List ℕ) (at p had : ℕ) (c : Counting s at p had) where
+  turn-said : (t : Turn) → turnAt s had p ≡ t → (q : Span)
+      → (spans : List Span) × (length spans ≡ had) × (pagesIn (turned spans p t (pagesFrom (c .room - 1) s)) ≡ pagesIn (pagesFrom (length s) s at (q ∷ [])))
+  turn-said t e q = let j = c .same q in (j .0, j .1, sym (ap pagesIn (by-turn (c .room) s p had (j .0) t (c .enough) (j .1) e)) ∙ j .2)
+
+  -- past a comment
+  pub counting-aside : (next : ℕ) → turnAt s had p ≡ Aside next → (p < next) × (next ≤ length s) × Counting s at next had
+  unfolding turned
+  counting-aside next e =
+      let g = onward-by s had p (Aside next) e in
+      (g .0, g .1, record { room = c .room - 1; enough = omega (arith, g .0, g .1, c .enough); few = omega (arith, g .0, c .few); some = c .some; same = turn-said (Aside next) e })
+
+  -- past a page
+  pub counting-page : (next : ℕ) → turnAt s had p ≡ Page next → (p < next) × (next ≤ length s) × Counting s at next (had + 1)
+  unfolding turned
+  counting-page next e =
+      let g = onward-by s had p (Page next) e in
+      let one = spanOf p next in (
+        g .0,
+        g .1,
+        record {
+          room = c .room - 1;
+          enough = omega (arith, g .0, g .1, c .enough);
+          few = omega (arith, g .0, c .few);
+          some = omega (arith, c .some);
+          same = λ q. let j = turn-said (Page next) e q in (j .0 ++ (one ∷ []), omega (arith, length-append (j .0) (one ∷ []), j .1), j .2);
+        },
+      )
+
+  pub counting-ended : turnAt s had p ≡ Ended → (q : Span) → Done (had - 1) ≡ pagesIn (pagesFrom (length s) s at (q ∷ []))
+  unfolding turned pagesIn
+  counting-ended e q = let j = turn-said Ended e q in rw (sym (j .1)) (j .2)
+
+  pub counting-halts : (w : Refusal) (place : ℕ) → turnAt s had p ≡ Halt w place → (q : Span) → Refused w place ≡ pagesIn (pagesFrom (length s) s at (q ∷ []))
+  unfolding turned pagesIn
+  counting-halts w place e q = turn-said (Halt w place) e q .2
+
+-- ---- the master
 
 module _ (s : List ℕ) where
   pub headless : starts header s ≡ false → Refused BadHeader 0 ≡ pagesIn (skeletonOf s)
