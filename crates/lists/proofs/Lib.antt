@@ -17,7 +17,6 @@ pub mod Surveying
 pub mod Placing
 pub mod Filled
 pub mod Answering
-pub mod SignedWord
 pub mod Storing
 pub mod Sizes
 pub mod Judging

@@ -65,23 +65,11 @@ fn put_words(b: &mut [u8], i: usize, k: u32, v: u32, w: u32)
     table::words::put_word(b, i + 12, 0);
 }
 
-// A signed number's bits.
-fn to_word(v: i32) -> u32
-    ensures { λ r. ⌜ r ≡ ofZ w32 v ⌝ }
-{
-    let wide = v as i64;
-    if wide < 0 {
-        (wide + 4294967296) as u32
-    } else {
-        wide as u32
-    }
-}
-
 fn put_number(list: &mut [u8], p: usize, value: numbers::Number)
     requires { ⌜ p + 16 ≤ length (now list) ⌝ }
     ensures { λ _. ⌜ now (list .exit) ≡ sets (now (list .entry)) p (fourWords 1 (ofZ w32 (value .num)) (value .den)) ⌝ }
 {
-    put_words(list, p, 1, to_word(value.num), value.den);
+    put_words(list, p, 1, numbers::words::to_word(value.num), value.den);
 }
 
 // Copies `len` bytes of s from `from` on to `o`, in lower case where asked.

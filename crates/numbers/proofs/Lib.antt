@@ -2,6 +2,7 @@
 pub mod Divisor
 pub mod Signs
 pub mod Machine
+pub mod SignedWord
 pub mod Rounding
 pub mod Limits
 pub mod Operations

@@ -4,6 +4,7 @@ pub mod arith; // the operations
 mod euclid; // the greatest common divisor
 pub mod lowest; // a quotient in lowest terms, held against the limits
 mod wholes; // whole numbers as sign and size
+pub mod words; // a numerator as its bits
 
 // A fraction. Of document 01's numbers the numerator is -2147483647 to 2147483647 and the denominator 1 to 2147483647.
 pub struct Number {

@@ -41,7 +41,7 @@ join w a b c x y z e f g = omega arith
 top : (w : ℕ) → w < 2 ^ 32 → w / 16777216 % 256 ≡ w / 16777216
 top w h = omega arith
 
-word-joined : (w : ℕ) → w < 2 ^ 32 → w % 256 + w / 256 % 256 * 256 + w / 65536 % 256 * 65536 + w / 16777216 % 256 * 16777216 ≡ w
+pub word-joined : (w : ℕ) → w < 2 ^ 32 → w % 256 + w / 256 % 256 * 256 + w / 65536 % 256 * 65536 + w / 16777216 % 256 * 16777216 ≡ w
 word-joined w h =
     let f : w / 65536 ≡ w / 256 / 256 = sym (div-div-eq-div-mul w 256 256) in
     let g : w / 16777216 ≡ w / 256 / 256 / 256 = sym (div-div-eq-div-mul w 65536 256) ∙ ap (λ (n : ℕ). n / 256) f in

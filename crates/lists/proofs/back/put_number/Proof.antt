@@ -1,5 +1,5 @@
 -- `back::put_number` meets its contract. Assumes nothing.
-use Rattle.lists.proofs.SignedWord.{passed}
+use Rattle.numbers.proofs.SignedWord.{passed}
 use Rattle.lists.specs.Promise.{fourWords}
 use lib.Seq.{sets}
 use Prim.Native.Nat.{ℕ}

@@ -2,16 +2,16 @@
 -- here, once. Assumes nothing.
 use mathlib.Core.Path.{_≡_, refl, sym, ap, subst, _∙_}
 use mathlib.Core.Bool.{Bool, true, false, cond}
-use Prim.Native.Nat.{suc, _-_, _<_, _≤_}
+use Prim.Native.Nat.{ℕ, suc, _-_, _<_, _≤_}
 use native.Mathlib.Omega.{arith}
 use lib.Dec.{T}
-use lib.IntN.{ℤ, pos, negsuc, natAbs, _+ℤ_}
+use lib.IntN.{ℤ, pos, negsuc, natAbs, _+ℤ_, _-ℤ_}
 use lib.Signed.{ltZ, nonNeg, mag}
 use mir.Syntax.{w32, w64}
-use mir.Val.{SFits, Fits, toZ, ofZ}
-use mir.Facts.{toZ-ofZ, fits-ofZ}
-use borrow.Author.Tests.{le-ltb, ltb-true}
+use mir.Val.{SFits, Fits, toZ, ofZ, sel}
+use mir.Facts.{toZ-ofZ, toZ-pos, fits-ofZ}
+use borrow.Author.Tests.{le-ltb, lt-ltb, ltb-true}
 use Rattle.numbers.proofs.Machine.{wide-is}
 
 -- a number below 0 with 2 ^ 32 added
 plus : (z : ℤ) → SFits w32 z → ltZ z (pos 0) ≡ true → z +ℤ pos 4294967296 ≡ pos (ofZ w32 z)
@@ -44,6 +44,28 @@ module _ (z : ℤ) (f : SFits w32 z) where
 
   pub plain : ltZ (toZ w64 (ofZ w64 (toZ w32 (ofZ w32 z)))) (pos 0) ≡ false → toZ w64 (ofZ w64 (toZ w32 (ofZ w32 z))) ≡ pos (ofZ w32 z)
   plain e = widened ∙ same-bits z (subst (λ (y : ℤ). ltZ y (pos 0) ≡ false) widened e)
+
+-- a word with its top bit set: the bits with 2 ^ 32 taken away
+module _ (x : ℕ) (high : 2147483648 ≤ x) (word : x < 4294967296) where
+  as-signed : toZ w32 x ≡ negsuc (4294967296 - suc x)
+  as-signed = ap (λ (b : Bool). sel b (pos x) (negsuc (4294967296 - suc x))) (le-ltb x 2147483648 high)
+
+  minus : toZ w64 x -ℤ pos 4294967296 ≡ negsuc (4294967296 - suc x)
+  minus =
+      ap (λ (y : ℤ). y -ℤ pos 4294967296) (toZ-pos w64 {n = x} (omega arith)) ∙
+      ap (λ (b : Bool). cond b (negsuc (4294967296 - suc x)) (pos (x - 4294967296))) (lt-ltb x 4294967296 word)
+
+  pub minus-fits : SFits w64 (toZ w64 x -ℤ pos 4294967296)
+  minus-fits = subst (SFits w64) (sym minus) (record { sfits = omega arith })
+
+  pub minus-is : toZ w64 (ofZ w64 (toZ w64 x -ℤ pos 4294967296)) ≡ toZ w32 x
+  minus-is = toZ-ofZ {w = w64} minus-fits ∙ minus ∙ sym as-signed
+
+  pub signed-fits : SFits w32 (toZ w64 (ofZ w64 (toZ w64 x -ℤ pos 4294967296)))
+  signed-fits = subst (SFits w32) (sym (minus-is ∙ as-signed)) (record { sfits = omega arith })
+
+  pub signed-is : toZ w32 (ofZ w32 (toZ w64 (ofZ w64 (toZ w64 x -ℤ pos 4294967296)))) ≡ toZ w32 x
+  signed-is = toZ-ofZ signed-fits ∙ minus-is
 
 -- the numerator of a number, passed on
 pub passed : (z : ℤ) → mag z < 2147483648 → ofZ w32 (toZ w32 (ofZ w32 z)) ≡ ofZ w32 z

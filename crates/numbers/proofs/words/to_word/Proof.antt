@@ -1,10 +1,10 @@
--- `back::to_word` meets its contract: below 0 the bits are the number with 2 ^ 32 added. Assumes nothing.
+-- `words::to_word` meets its contract: below 0 the bits are the number with 2 ^ 32 added. Assumes nothing.
 use Rattle.numbers.proofs.Machine.{wide-fits}
 use lib.IntN.{natAbs}
-use Rattle.lists.proofs.SignedWord.{is-word, sum-fits, sum, plain}
+use Rattle.numbers.proofs.SignedWord.{is-word, sum-fits, sum, plain}
 use mathlib.Core.Path.{ap}
-use Rattle.lists.proofs.back.to_word.Statement.{statement}
-use Rattle.lists.proofs.back.to_word.Tie as tie
+use Rattle.numbers.proofs.words.to_word.Statement.{statement}
+use Rattle.numbers.proofs.words.to_word.Tie as tie
 
 pub to-word-spec : {M : Type 1} → statement M
 to-word-spec =

@@ -1,0 +1,18 @@
+-- `slots::put` meets its contract. Assumes nothing.
+use borrow.Author.Needs.{needs}
+use mathlib.Core.Path.{ap, _∙_}
+use Rattle.table.proofs.SlotLists.{put-slot}
+use Rattle.table.specs.Slots.{slots}
+use native.Mathlib.Omega.{arith}
+use borrow.Author.Needs.{needs}
+use Rattle.table.proofs.slots.put.Statement.{statement}
+use Rattle.table.proofs.slots.put.Tie as tie
+
+pub put-spec : {M : Type 1} → statement M
+put-spec =
+    tie.close
+    (tie.spec
+    (λ c. search needs)
+    (λ c κs. search needs)
+    (λ c. search needs)
+    (λ c. ap slots (c .before .before .emit .ensures) ∙ put-slot (c .before .before .before .before .before .args .w .now) (c .before .before .before .before .before .args .k) (c .before .before .before .before .before .args .v) (record { kind = omega arith; a = omega arith; b = omega arith; c = omega arith; d = omega arith }) (omega arith)))
