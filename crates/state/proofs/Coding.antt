@@ -1,0 +1,62 @@
+-- A value as a slot, and back. Assumes nothing.
+use mathlib.Core.Path.{_≡_}
+use Prim.Native.Nat.{ℕ, _-_, _<_}
+use native.Mathlib.Omega.{arith}
+use borrow.Author.Tests.{ne-eqb}
+use lib.IntN.{ℤ}
+use mir.Syntax.{w32}
+use mir.Val.{toZ}
+use Rattle.table.specs.declared.Slot.{Slot}
+use Rattle.table.specs.Slots.{mk}
+use Rattle.numbers.specs.declared.Number as num
+use Rattle.machine.specs.declared.Value.{Value}
+use Rattle.machine.specs.declared.Value.the-variants.{Number, Identifier, Vector, Operator}
+use Rattle.machine.specs.Contexts.{from}
+use Rattle.machine.specs.Engine.{fits}
+use Rattle.state.specs.Layout.{valueIn}
+use lib.Signed.{mag}
+use mir.Val.{ofZ}
+use mir.Facts.{toZ-ofZ, sfits-toZ}
+
+-- ---- from a slot
+
+pub from-identifier : (v : Slot) → v .kind ≡ 2 → Identifier (v .a) (v .b) (v .c) ≡ valueIn v
+unfolding valueIn
+from-identifier v e = rw e
+
+pub from-vector : (v : Slot) → v .kind ≡ 3 → Vector (v .a) (v .b) (v .c) ≡ valueIn v
+unfolding valueIn
+from-vector v e = rw e
+
+pub from-operator : (v : Slot) → v .kind ≡ 4 → Operator (v .a) (v .b) (v .c) (v .d) ≡ valueIn v
+unfolding valueIn
+from-operator v e = rw e
+
+pub from-number : (v : Slot) {z : ℤ} → (v .kind ≡ 2 → ⊥) → (v .kind ≡ 3 → ⊥) → (v .kind ≡ 4 → ⊥) → v .a < 4294967296 → z ≡ toZ w32 (v .a) → Number (record { num = toZ w32 (ofZ w32 z); den = v .b }) ≡ valueIn v
+unfolding valueIn
+from-number v n₂ n₃ n₄ h e =
+    let back : toZ w32 (ofZ w32 (toZ w32 (v .a))) ≡ toZ w32 (v .a) = toZ-ofZ {w = w32} (sfits-toZ {w = w32} (record { fits = h })) in
+    rw (e, back, ne-eqb (v .kind) 2 n₂, ne-eqb (v .kind) 3 n₃, ne-eqb (v .kind) 4 n₄)
+
+-- ---- to a slot
+
+not-five : (n : ℕ) → n < 5 → n ≡ 5 → ⊥
+not-five n h e = omega arith
+
+pub number-back : {v : Value} (a : num.Number) (x : ℕ) → v ≡ Number a → mag (a .num) < 2147483648 → x ≡ ofZ w32 (toZ w32 (ofZ w32 (a .num))) → (valueIn (mk 1 x (a .den) 0 0) ≡ v) × (_≡_ {A = ℕ} 1 5 → ⊥)
+unfolding valueIn
+number-back a x e f g =
+    let back : toZ w32 (ofZ w32 (a .num)) ≡ a .num = toZ-ofZ (record { sfits = f }) in
+    (rw (e, g, back, back), not-five 1 (omega arith))
+
+pub identifier-back : {v : Value} (o s l : ℕ) → v ≡ Identifier o s l → (valueIn (mk 2 o s l 0) ≡ v) × (_≡_ {A = ℕ} 2 5 → ⊥)
+unfolding valueIn
+identifier-back o s l e = (rw e, not-five 2 (omega arith))
+
+pub vector-back : {v : Value} (f l n : ℕ) → v ≡ Vector f l n → (valueIn (mk 3 f l n 0) ≡ v) × (_≡_ {A = ℕ} 3 5 → ⊥)
+unfolding valueIn
+vector-back f l n e = (rw e, not-five 3 (omega arith))
+
+pub operator-back : {v : Value} (o s l f : ℕ) → v ≡ Operator o s l f → (valueIn (mk 4 o s l f) ≡ v) × (_≡_ {A = ℕ} 4 5 → ⊥)
+unfolding valueIn
+operator-back o s l f e = (rw e, not-five 4 (omega arith))

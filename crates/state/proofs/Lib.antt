@@ -1,0 +1,5 @@
+-- The laws, lowest first. Assumes nothing.
+pub mod Coding
+pub mod Parts
+pub mod Recovering
+pub mod Ending

@@ -1,0 +1,29 @@
+// The state of the machine in the lent table, and the operations that the engine is made of. Above this crate nothing knows where in
+// the table a thing stands; nothing but `values` knows how a value lies in a slot.
+pub mod recovery; // mark recovery, the end of bodies
+pub mod values; // a value in a slot
+
+// What of the state is no part of the table: entries of the stack, contexts in progress (0: the run has ended), cells used, and the
+// counts. `ok` is the answer of an operation that may fail.
+pub struct Registers {
+    pub height: usize,
+    pub depth: usize,
+    pub used: usize,
+    pub steps: usize,
+    pub errors: usize,
+    pub skipping: bool,
+    pub ok: bool,
+}
+
+// Where recovery ends: so many entries, so many contexts.
+pub struct Landing {
+    pub height: usize,
+    pub depth: usize,
+}
+
+// The two topmost values above the topmost mark, and how many of them there are.
+pub struct Tops {
+    pub count: usize,
+    pub first: table::Slot,
+    pub second: table::Slot,
+}

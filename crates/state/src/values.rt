@@ -1,0 +1,106 @@
+// A value in a slot, and back: the only place that knows.
+ghost use mathlib.Core.Path.{_≡_};
+ghost use Rattle.table.specs.Slots.{mk};
+ghost use Rattle.state.specs.Layout.{valueIn};
+use table::Slot;
+
+pub fn zero() -> Slot
+    ensures { λ r. ⌜ r ≡ mk 1 0 1 0 0 ⌝ }
+{
+    Slot {
+        kind: 1,
+        a: 0,
+        b: 1,
+        c: 0,
+        d: 0,
+    }
+}
+
+// The value in a slot.
+pub fn value_of(v: Slot) -> machine::Value
+    ensures { λ r. ⌜ r ≡ valueIn v ⌝ }
+{
+    if v.kind == 2 {
+        return machine::Value::Identifier {
+            origin: v.a,
+            start: v.b,
+            len: v.c,
+        };
+    }
+    if v.kind == 3 {
+        return machine::Value::Vector {
+            first: v.a,
+            lower: v.b,
+            count: v.c,
+        };
+    }
+    if v.kind == 4 {
+        return machine::Value::Operator {
+            origin: v.a,
+            start: v.b,
+            len: v.c,
+            first: v.d,
+        };
+    }
+    machine::Value::Number(numbers::Number {
+        num: numbers::words::of_word(v.a),
+        den: v.b,
+    })
+}
+
+// A slot for a value.
+pub fn slot_of(v: machine::Value) -> Slot
+    ensures { λ r. ⌜ (valueIn r ≡ v) × (r .kind ≡ 5 → ⊥) ⌝ }
+{
+    match v {
+        machine::Value::Number(a) => Slot {
+            kind: 1,
+            a: numbers::words::to_word(a.num),
+            b: a.den,
+            c: 0,
+            d: 0,
+        },
+        machine::Value::Identifier { origin, start, len } => Slot {
+            kind: 2,
+            a: origin,
+            b: start,
+            c: len,
+            d: 0,
+        },
+        machine::Value::Vector {
+            first,
+            lower,
+            count,
+        } => Slot {
+            kind: 3,
+            a: first,
+            b: lower,
+            c: count,
+            d: 0,
+        },
+        machine::Value::Operator {
+            origin,
+            start,
+            len,
+            first,
+        } => Slot {
+            kind: 4,
+            a: origin,
+            b: start,
+            c: len,
+            d: first,
+        },
+    }
+}
+
+// The same value, and no mark, whatever the words are.
+pub fn plain(v: Slot) -> Slot
+    ensures { λ r. ⌜ (valueIn r ≡ valueIn v) × (r .kind ≡ 5 → ⊥) ⌝ }
+{
+    if v.kind == 5 {
+        let mut q = v;
+        q.kind = 1;
+        return q;
+    }
+    v
+}
