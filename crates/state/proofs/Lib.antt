@@ -3,3 +3,6 @@ pub mod Coding
 pub mod Parts
 pub mod Recovering
 pub mod Ending
+pub mod Cutting
+pub mod Trying
+pub mod Stacking

@@ -17,9 +17,11 @@ use Rattle.machine.specs.declared.Value.{Value}
 use Rattle.machine.specs.declared.Value.the-variants.{Number, Identifier, Vector, Operator}
 use Rattle.machine.specs.Limits.{frameSize, mostEntries, mostContexts, mostCells, scratchSize}
 use Rattle.machine.specs.State.{Entry, val, mark, Context, State}
+use Rattle.machine.specs.State as state
 use Rattle.machine.specs.Contexts.{Spot}
 use Rattle.machine.specs.Step.{begun}
 use Rattle.state.specs.declared.Registers.{Registers}
+use Rattle.state.specs.declared.Tops.{Tops}
 
 -- ---- a value in a slot: its kind, then its words (01: "A value is five signed words")
 
@@ -130,3 +132,9 @@ pub record Landed (m : List Slot) (p : Spot) (height depth height′ depth′ : 
   pub lower : height′ ≤ height
   pub fewer : depth′ ≤ depth
   pub lands : spot m height′ depth′ ≡ p
+
+-- the two topmost of the values vs, 0 where there is none
+pub record Topmost (vs : List Value) (q : Tops) : Type 0 where
+  pub count : q .count ≡ length (take 2 vs)
+  pub first : valueIn (q .first) ≡ getD vs 0 state.zero
+  pub second : valueIn (q .second) ≡ getD vs 1 state.zero

@@ -1,6 +1,7 @@
 // The state of the machine in the lent table, and the operations that the engine is made of. Above this crate nothing knows where in
 // the table a thing stands; nothing but `values` knows how a value lies in a slot.
 pub mod recovery; // mark recovery, the end of bodies
+pub mod stack; // the values above the topmost mark
 pub mod values; // a value in a slot
 
 // What of the state is no part of the table: entries of the stack, contexts in progress (0: the run has ended), cells used, and the

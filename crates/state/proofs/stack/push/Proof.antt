@@ -1,0 +1,15 @@
+-- `stack::push` meets its contract. Assumes nothing.
+use borrow.Author.Needs.{needs}
+use Prim.Native.Nat.{_-_}
+use Rattle.state.proofs.Stacking.{push-as}
+use Rattle.state.proofs.stack.push.Statement.{statement}
+use Rattle.state.proofs.stack.push.Tie as tie
+
+pub push-spec : {M : Type 1} → statement M
+push-spec =
+    tie.close
+    (tie.spec
+    (λ c κs. search needs)
+    (λ c κs. search needs)
+    (λ c. search needs)
+    (λ c. search (needs, push-as)))

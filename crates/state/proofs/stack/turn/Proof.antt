@@ -1,0 +1,21 @@
+-- `stack::turn` meets its contract. Assumes nothing.
+use borrow.Author.Needs.{needs}
+use Prim.Native.Nat.{_-_}
+use Rattle.state.proofs.Stacking.{few, turn-few, turn-yes}
+use native.Mathlib.Omega.{arith}
+use Rattle.state.proofs.stack.turn.Statement.{statement}
+use Rattle.state.proofs.stack.turn.Tie as tie
+
+pub turn-spec : {M : Type 1} → statement M
+turn-spec =
+    tie.close
+    (tie.spec
+    (λ c κs. search needs)
+    (λ c κs. search needs)
+    (λ c. omega (arith, few _ _ (c .before .before .before .before .before .before .pre) (c .before .before .before .has .ensures) (c .before .before .if1 .taken)))
+    (λ c κs. (omega (arith, few _ _ (c .before .before .before .before .before .before .pre) (c .before .before .before .has .ensures) (c .before .before .if1 .taken)), omega (arith, few _ _ (c .before .before .before .before .before .before .pre) (c .before .before .before .has .ensures) (c .before .before .if1 .taken)), omega (arith, few _ _ (c .before .before .before .before .before .before .pre) (c .before .before .before .has .ensures) (c .before .before .if1 .taken))))
+    (λ c. search needs)
+    (λ c. search (needs, turn-yes))
+    (λ c κs. search needs)
+    (λ c. search needs)
+    (λ c. search (needs, turn-few)))

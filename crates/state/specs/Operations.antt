@@ -1,0 +1,34 @@
+-- What operations of the table mean where the definitions of the machine say it within a larger one. Assumes nothing.
+use Prim.Native.Nat.{ℕ}
+use mathlib.Core.Bool.{Bool, false}
+use mathlib.Core.List.{List, [], _∷_}
+use mathlib.Core.Option.{Option}
+use lib.ListN.{getD, take, drop}
+use Rattle.machine.specs.declared.Value.{Value}
+use Rattle.machine.specs.Limits.{frameSize}
+use Rattle.machine.specs.State.{val, Context, State, zero, running}
+use Rattle.machine.specs.Engine.{withStack, push, enter}
+
+-- two values, the second on top
+unfoldable pub pushTwo : Value → Value → State → Option State
+pushTwo v u s = push u (withStack (val v ∷ s .stack) s)
+
+-- an element of the running frame
+unfoldable pub fetch : ℕ → State → Option State
+fetch j s = push (getD (running (s .contexts) .frame) j zero) s
+
+-- a cell
+unfoldable pub element : ℕ → State → Option State
+element k s = push (getD (s .cells) k zero) s
+
+-- a body entered from `at` to `end`
+abbrev pub entered : ℕ → ℕ → ℕ → Bool → List Value → State → Context
+entered origin at end owes frame s = record { id = s .steps; origin = origin; at = at; end = end; owes = owes; frame = frame }
+
+-- with a copy of the running frame
+unfoldable pub inline : ℕ → ℕ → Bool → State → Option State
+inline at end owes s = let c = running (s .contexts) in enter (entered (c .origin) at end owes (c .frame) s) s
+
+-- with the frame that stands in the cells from `first` on
+unfoldable pub call : ℕ → ℕ → ℕ → ℕ → State → Option State
+call origin at end first s = enter (entered origin at end false (take frameSize (drop first (s .cells))) s) s
