@@ -6,3 +6,4 @@ pub mod Ending
 pub mod Cutting
 pub mod Trying
 pub mod Stacking
+pub mod Marking

@@ -1,9 +1,11 @@
 -- What operations of the table mean where the definitions of the machine say it within a larger one. Assumes nothing.
-use Prim.Native.Nat.{ℕ}
+use Prim.Native.Nat.{ℕ, _+_}
 use mathlib.Core.Bool.{Bool, false}
 use mathlib.Core.List.{List, [], _∷_}
 use mathlib.Core.Option.{Option}
-use lib.ListN.{getD, take, drop}
+use lib.ListN.{getD, set, take, drop}
+use Rattle.table.specs.declared.Slot.{Slot}
+use Rattle.table.specs.Slots.{mk, copied}
 use Rattle.machine.specs.declared.Value.{Value}
 use Rattle.machine.specs.Limits.{frameSize}
 use Rattle.machine.specs.State.{val, Context, State, zero, running}
@@ -12,6 +14,10 @@ use Rattle.machine.specs.Engine.{withStack, push, enter}
 -- two values, the second on top
 unfoldable pub pushTwo : Value → Value → State → Option State
 pushTwo v u s = push u (withStack (val v ∷ s .stack) s)
+
+-- a mark put under the n slots from a on, by way of the room for entries
+unfoldable pub markPut : List Slot → ℕ → ℕ → ℕ → List Slot
+markPut m a n id = copied (set (copied m a 1814 n) a (mk 5 id 0 0 0)) 1814 (a + 1) n
 
 -- an element of the running frame
 unfoldable pub fetch : ℕ → State → Option State

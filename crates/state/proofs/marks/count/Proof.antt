@@ -1,0 +1,33 @@
+-- `marks::count` meets its contract. Assumes nothing.
+use borrow.Author.Needs.{needs}
+use mathlib.Core.Path.{_≡_}
+use Prim.Native.Nat.{_+_, _-_, _≤_}
+use lib.ListN.{length}
+use Rattle.table.specs.Slots.{slots}
+use Rattle.machine.specs.Contexts.{above}
+use Rattle.state.specs.Layout.{stackOf}
+use Rattle.state.proofs.Recovering.{count-end, count-stop, count-more}
+use Rattle.state.proofs.marks.count.Statement.{statement}
+use Rattle.state.proofs.marks.count.Tie as tie
+
+abbrev Inv-loop : tie.InvT-loop
+Inv-loop w height i₀ n₀ i n = (i ≤ height) × (n + i ≡ height) × (n + length (above (stackOf (slots w) i)) ≡ length (above (stackOf (slots w) height)))
+
+abbrev μ-loop : tie.MeasureT-loop
+μ-loop w height i₀ n₀ i n = i
+
+pub count-spec : {M : Type 1} → statement M
+count-spec =
+    tie.close
+    (tie.spec
+    Inv-loop
+    μ-loop
+    (λ c. search needs)
+    (λ c. search needs)
+    (λ c κs. search needs)
+    (λ c. (search needs, search (needs, count-stop)))
+    (λ c. search needs)
+    (λ c. search needs)
+    (λ c. search needs)
+    (λ c. (search needs, search needs, search (needs, count-more)))
+    (λ c. (search needs, search (needs, count-end))))

@@ -1,0 +1,141 @@
+// Marks placed and removed, and the values above the topmost one counted.
+ghost use mathlib.Core.Path.{_≡_};
+ghost use Prim.Native.Nat.{_+_, _-_, _<_, _≤_};
+ghost use lib.ListN.{length};
+ghost use Rattle.table.specs.Slots.{slots};
+ghost use Rattle.machine.specs.Contexts.{above};
+ghost use Rattle.machine.specs.Engine.{place, remove, tally};
+ghost use Rattle.state.specs.Layout.{stackOf, Busy, Tried};
+ghost use Rattle.state.specs.Operations.{markPut};
+use crate::Registers;
+use table::Slot;
+
+// How many values stand above the topmost mark.
+fn count(w: &[u8], height: usize) -> usize
+    requires { ⌜ (height ≤ 128) × (48000 ≤ length (now w)) ⌝ }
+    ensures { λ r. ⌜ (r ≤ height) × (r ≡ length (above (stackOf (slots (now (w .entry))) height))) ⌝ }
+{
+    let mut i = height;
+    let mut n: usize = 0;
+    while i > 0 {
+        let v = table::slots::get(w, i - 1);
+        if v.kind == 5 {
+            return n;
+        }
+        n += 1;
+        i -= 1;
+    }
+    n
+}
+
+// A mark of the context with the identity `id` under the n slots from a on, by way of the room for entries.
+fn put_mark(w: &mut [u8], a: usize, n: usize, id: u32)
+    requires { ⌜ (a + n < 128) × (48000 ≤ length (now w)) ⌝ }
+    ensures { λ _. ⌜ slots (now (w .exit)) ≡ markPut (slots (now (w .entry))) a n id ⌝ }
+{
+    table::slots::copy(w, a, 1814, n);
+    table::slots::put(
+        w,
+        a,
+        Slot {
+            kind: 5,
+            a: id,
+            b: 0,
+            c: 0,
+            d: 0,
+        },
+    );
+    table::slots::copy(w, 1814, a + 1, n);
+}
+
+// MARK: a mark of the running context under n values.
+pub fn place(w: &mut [u8], r: Registers, n: usize) -> Registers
+    requires { ⌜ Busy (now w) r ⌝ }
+    ensures { λ q. ⌜ Tried (place n) (now (w .entry)) r (now (w .exit)) q ⌝ }
+{
+    let height = r.height;
+    let there = crate::stack::has(w, height, n);
+    if there {
+        if height >= 128 {
+            return crate::stack::failed(r);
+        }
+        let d = r.depth;
+        let c = table::slots::get(w, 1752 + (d - 1));
+        put_mark(w, height - n, n, c.kind);
+        let mut q = r;
+        q.height = height + 1;
+        q.ok = true;
+        return q;
+    }
+    crate::stack::failed(r)
+}
+
+// UNMARK: the running context's own mark, with exactly n values above it.
+pub fn remove(w: &mut [u8], r: Registers, n: usize) -> Registers
+    requires { ⌜ Busy (now w) r ⌝ }
+    ensures { λ q. ⌜ Tried (remove n) (now (w .entry)) r (now (w .exit)) q ⌝ }
+{
+    let height = r.height;
+    if n >= height {
+        return crate::stack::failed(r);
+    }
+    let there = crate::stack::has(w, height, n);
+    if there {
+        let v = table::slots::get(w, height - n - 1);
+        if v.kind != 5 {
+            return crate::stack::failed(r);
+        }
+        let d = r.depth;
+        let c = table::slots::get(w, 1752 + (d - 1));
+        if v.a != c.kind {
+            return crate::stack::failed(r);
+        }
+        table::slots::copy(w, height - n, height - n - 1, n);
+        let mut q = r;
+        q.height = height - 1;
+        q.ok = true;
+        return q;
+    }
+    crate::stack::failed(r)
+}
+
+// A count as a word.
+fn word(x: usize) -> u32
+    requires { ⌜ x < 4294967296 ⌝ }
+    ensures { λ r. ⌜ r ≡ x ⌝ }
+{
+    x as u32
+}
+
+// COUNT: how many values stand above the running context's own mark.
+pub fn tally(w: &mut [u8], r: Registers) -> Registers
+    requires { ⌜ Busy (now w) r ⌝ }
+    ensures { λ q. ⌜ Tried tally (now (w .entry)) r (now (w .exit)) q ⌝ }
+{
+    let height = r.height;
+    let k = count(w, height);
+    if k == height {
+        return crate::stack::failed(r);
+    }
+    let v = table::slots::get(w, height - k - 1);
+    if v.kind != 5 {
+        return crate::stack::failed(r);
+    }
+    let d = r.depth;
+    let c = table::slots::get(w, 1752 + (d - 1));
+    if v.a != c.kind {
+        return crate::stack::failed(r);
+    }
+    let n = word(k);
+    crate::stack::push_slot(
+        w,
+        r,
+        Slot {
+            kind: 1,
+            a: n,
+            b: 1,
+            c: 0,
+            d: 0,
+        },
+    )
+}
