@@ -1,5 +1,5 @@
 -- A value as a slot, and back. Assumes nothing.
-use mathlib.Core.Path.{_≡_}
+use mathlib.Core.Path.{_≡_, ap, sym, _∙_}
 use Prim.Native.Nat.{ℕ, _-_, _<_}
 use native.Mathlib.Omega.{arith}
 use borrow.Author.Tests.{ne-eqb}
@@ -42,6 +42,9 @@ from-number v n₂ n₃ n₄ h e =
 
 not-five : (n : ℕ) → n < 5 → n ≡ 5 → ⊥
 not-five n h e = omega arith
+
+pub zero-plain : (z : Slot) → z ≡ mk 1 0 1 0 0 → z .kind ≡ 5 → ⊥
+zero-plain z e h = not-five 1 (omega arith) (sym (ap (λ (v : Slot). v .kind) e) ∙ h)
 
 pub number-back : {v : Value} (a : num.Number) (x : ℕ) → v ≡ Number a → mag (a .num) < 2147483648 → x ≡ ofZ w32 (toZ w32 (ofZ w32 (a .num))) → (valueIn (mk 1 x (a .den) 0 0) ≡ v) × (_≡_ {A = ℕ} 1 5 → ⊥)
 unfolding valueIn

@@ -7,3 +7,6 @@ pub mod Cutting
 pub mod Trying
 pub mod Stacking
 pub mod Marking
+pub mod Framing
+pub mod Charging
+pub mod Entering

@@ -60,7 +60,7 @@ module _ {R : Bool} (m : List Slot) (top left : ℕ) (inv : leb left (length (ab
 
 -- ---- the two topmost
 
-zero-value : valueIn (mk 1 0 1 0 0) ≡ state.zero
+pub zero-value : valueIn (mk 1 0 1 0 0) ≡ state.zero
 unfolding valueIn
 zero-value = refl
 

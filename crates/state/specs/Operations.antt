@@ -1,15 +1,20 @@
 -- What operations of the table mean where the definitions of the machine say it within a larger one. Assumes nothing.
-use Prim.Native.Nat.{ℕ, _+_}
+use Prim.Native.Nat.{ℕ, zero, suc, _+_}
+use mathlib.Core.Path.{_≡_}
 use mathlib.Core.Bool.{Bool, false}
 use mathlib.Core.List.{List, [], _∷_}
 use mathlib.Core.Option.{Option}
 use lib.ListN.{getD, set, take, drop}
 use Rattle.table.specs.declared.Slot.{Slot}
-use Rattle.table.specs.Slots.{mk, copied}
+use Rattle.table.specs.Slots.{mk, slots, copied}
 use Rattle.machine.specs.declared.Value.{Value}
 use Rattle.machine.specs.Limits.{frameSize}
-use Rattle.machine.specs.State.{val, Context, State, zero, running}
+use Rattle.machine.specs.State.{val, Context, State, running}
+use Rattle.machine.specs.State as state
+use Rattle.machine.specs.Contexts.{settle}
 use Rattle.machine.specs.Engine.{withStack, push, enter}
+use Rattle.state.specs.declared.Registers.{Registers}
+use Rattle.state.specs.Layout.{valuesAt, frameAt, aside, abs, Good}
 
 -- two values, the second on top
 unfoldable pub pushTwo : Value → Value → State → Option State
@@ -21,11 +26,11 @@ markPut m a n id = copied (set (copied m a 1814 n) a (mk 5 id 0 0 0)) 1814 (a + 
 
 -- an element of the running frame
 unfoldable pub fetch : ℕ → State → Option State
-fetch j s = push (getD (running (s .contexts) .frame) j zero) s
+fetch j s = push (getD (running (s .contexts) .frame) j state.zero) s
 
 -- a cell
 unfoldable pub element : ℕ → State → Option State
-element k s = push (getD (s .cells) k zero) s
+element k s = push (getD (s .cells) k state.zero) s
 
 -- a body entered from `at` to `end`
 abbrev pub entered : ℕ → ℕ → ℕ → Bool → List Value → State → Context
@@ -38,3 +43,30 @@ inline at end owes s = let c = running (s .contexts) in enter (entered (c .origi
 -- with the frame that stands in the cells from `first` on
 unfoldable pub call : ℕ → ℕ → ℕ → ℕ → State → Option State
 call origin at end first s = enter (entered origin at end false (take frameSize (drop first (s .cells))) s) s
+
+-- the context d, its frame copied from the slot s on
+unfoldable pub contextPut : List Slot → ℕ → ℕ → ℕ → ℕ → ℕ → ℕ → ℕ → List Slot
+contextPut m id d s origin at end owes = set (copied m s (frameAt d) frameSize) (1752 + d) (mk id origin at end owes)
+
+-- n slots from b on are 0
+unfoldable pub filled : List Slot → ℕ → ℕ → List Slot
+filled m b zero = m
+filled m b (suc n) = set (filled m b n) (b + n) (mk 1 0 1 0 0)
+
+-- a body of the engine's begins, from `at` to `end`; one without literals has ended
+unfoldable pub opening : ℕ → ℕ → ℕ → List Value → List Value → State
+opening origin at end frame cells = settle (record {
+  stack = [];
+  contexts = record { id = 0; origin = origin; at = at; end = end; owes = false; frame = frame } ∷ [];
+  frame = frame;
+  cells = cells;
+  skipping = false;
+  steps = 0;
+  errors = 0;
+})
+
+pub record Opened (origin at end used : ℕ) (w w′ : List ℕ) (r : Registers) : Type 0 where
+  pub good : Good w′ r
+  pub is : abs w′ r ≡ opening origin at end (valuesAt (slots w) 128 frameSize) (valuesAt (slots w) 728 used)
+  pub keeps : aside w′ ≡ aside w
+  pub counted : r .steps ≡ 0

@@ -1,5 +1,8 @@
 // The state of the machine in the lent table, and the operations that the engine is made of. Above this crate nothing knows where in
 // the table a thing stands; nothing but `values` knows how a value lies in a slot.
+pub mod bodies; // a step begun, bodies entered, a body of the engine's opened
+pub mod cells; // vectors made and read, the frame that an operator keeps
+pub mod frames; // the running frame
 pub mod marks; // MARK, UNMARK, COUNT
 pub mod recovery; // mark recovery, the end of bodies
 pub mod stack; // the values above the topmost mark

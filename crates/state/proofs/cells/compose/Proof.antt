@@ -1,0 +1,30 @@
+-- `cells::compose` meets its contract. Assumes nothing.
+use borrow.Author.Needs.{needs}
+use Prim.Native.Nat.{_-_}
+use Rattle.state.proofs.Charging.{compose-full, compose-over, compose-yes}
+use Rattle.state.proofs.cells.compose.Statement.{statement}
+use Rattle.state.proofs.cells.compose.Tie as tie
+
+pub compose-spec : {M : Type 1} → statement M
+compose-spec =
+    tie.close
+    (tie.spec
+    (λ c κs. search needs)
+    (λ c. search (needs, compose-full))
+    (λ c. search needs)
+    (λ c κs. search needs)
+    (λ c. search (needs, compose-over))
+    (λ c. search needs)
+    (λ c. search needs)
+    (λ c κs. search needs)
+    (λ c. search needs)
+    (λ c. search needs)
+    (λ c. search needs)
+    (λ c. search needs)
+    (λ c κs. search needs)
+    (λ c κs. search needs)
+    (λ c κs. search needs)
+    (λ c. search needs)
+    (λ c. search needs)
+    (λ c. search needs)
+    (λ c. search (needs, compose-yes)))

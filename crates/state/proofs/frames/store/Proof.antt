@@ -1,0 +1,28 @@
+-- `frames::store` meets its contract. Assumes nothing.
+use borrow.Author.Needs.{needs}
+use Prim.Native.Nat.{_-_}
+use Rattle.state.proofs.Framing.{store-empty, store-mark, store-far, store-yes}
+use Rattle.state.proofs.frames.store.Statement.{statement}
+use Rattle.state.proofs.frames.store.Tie as tie
+
+pub store-spec : {M : Type 1} → statement M
+store-spec =
+    tie.close
+    (tie.spec
+    (λ c κs. search needs)
+    (λ c. search (needs, store-empty))
+    (λ c. search needs)
+    (λ c κs. search needs)
+    (λ c κs. search needs)
+    (λ c. search needs)
+    (λ c. search (needs, store-mark))
+    (λ c. search needs)
+    (λ c. search needs)
+    (λ c. search (needs, store-far))
+    (λ c. search needs)
+    (λ c. search needs)
+    (λ c. search needs)
+    (λ c. search needs)
+    (λ c κs. search needs)
+    (λ c. search needs)
+    (λ c. search (needs, store-yes)))

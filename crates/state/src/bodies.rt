@@ -1,0 +1,141 @@
+// A step begun, bodies entered, a body of the engine's opened.
+ghost use mathlib.Core.Path.{_≡_};
+ghost use Prim.Native.Nat.{_+_, _<_, _≤_};
+ghost use lib.Dec.{eqb};
+ghost use lib.ListN.{length};
+ghost use Rattle.table.specs.Slots.{slots};
+ghost use Rattle.state.specs.Layout.{Good, Busy, Tried, Begun};
+ghost use Rattle.state.specs.Operations.{inline, call, contextPut, Opened};
+use crate::Registers;
+use table::Slot;
+
+// A step begins: it is counted, and the running context goes on at `next`.
+pub fn begin(w: &mut [u8], r: Registers, next: u32) -> Registers
+    requires { ⌜ Good (now w) r × (0 < r .depth) × (r .steps < 4294967295) ⌝ }
+    ensures { λ q. ⌜ Begun next (now (w .entry)) r (now (w .exit)) q ⌝ }
+{
+    let d = r.depth;
+    let c = table::slots::get(w, 1752 + (d - 1));
+    table::slots::put(
+        w,
+        1752 + (d - 1),
+        Slot {
+            kind: c.kind,
+            a: c.a,
+            b: next,
+            c: c.c,
+            d: c.d,
+        },
+    );
+    let mut q = r;
+    q.steps = r.steps + 1;
+    q
+}
+
+fn word(x: usize) -> u32
+    requires { ⌜ x < 4294967296 ⌝ }
+    ensures { λ r. ⌜ r ≡ x ⌝ }
+{
+    x as u32
+}
+
+// The context d, with a frame copied from the slot s on.
+fn put_context(w: &mut [u8], id: usize, d: usize, s: usize, origin: u32, at: u32, end: u32, owes: u32)
+    requires { ⌜ (id < 4294967296) × (d < 12) × (s + 50 ≤ 2400) × (48000 ≤ length (now w)) ⌝ }
+    ensures { λ _. ⌜ slots (now (w .exit)) ≡ contextPut (slots (now (w .entry))) id d s origin at end owes ⌝ }
+{
+    table::slots::copy(w, s, 128 + 50 * d, 50);
+    let i = word(id);
+    table::slots::put(
+        w,
+        1752 + d,
+        Slot {
+            kind: i,
+            a: origin,
+            b: at,
+            c: end,
+            d: owes,
+        },
+    );
+}
+
+fn owing(owes: bool) -> u32
+    ensures { λ r. ⌜ eqb r 1 ≡ owes ⌝ }
+{
+    if owes {
+        return 1;
+    }
+    0
+}
+
+// A body entered with a copy of the running frame.
+pub fn inline(w: &mut [u8], r: Registers, at: u32, end: u32, owes: bool) -> Registers
+    requires { ⌜ Busy (now w) r ⌝ }
+    ensures { λ q. ⌜ Tried (inline at end owes) (now (w .entry)) r (now (w .exit)) q ⌝ }
+{
+    let d = r.depth;
+    if d >= 12 {
+        return crate::stack::failed(r);
+    }
+    let c = table::slots::get(w, 1752 + (d - 1));
+    let o = owing(owes);
+    put_context(w, r.steps, d, 128 + 50 * (d - 1), c.a, at, end, o);
+    let mut q = r;
+    q.depth = d + 1;
+    q.ok = true;
+    q
+}
+
+// A body entered with the frame that stands in the cells from `first` on.
+pub fn call(w: &mut [u8], r: Registers, origin: u32, at: u32, end: u32, first: usize) -> Registers
+    requires { ⌜ Busy (now w) r × (first + 50 ≤ r .used) ⌝ }
+    ensures { λ q. ⌜ Tried (call origin at end first) (now (w .entry)) r (now (w .exit)) q ⌝ }
+{
+    let d = r.depth;
+    if d >= 12 {
+        return crate::stack::failed(r);
+    }
+    put_context(w, r.steps, d, 728 + first, origin, at, end, 0);
+    let mut q = r;
+    q.depth = d + 1;
+    q.ok = true;
+    q
+}
+
+// A body of the engine's, from `at` to `end`, with the frame that lies in its place and so many cells.
+pub fn open(w: &mut [u8], origin: u32, at: u32, end: u32, used: usize) -> Registers
+    requires { ⌜ (48000 ≤ length (now w)) × (used ≤ 1024) ⌝ }
+    ensures { λ q. ⌜ Opened origin at end used (now (w .entry)) (now (w .exit)) q ⌝ }
+{
+    table::slots::put(
+        w,
+        1752,
+        Slot {
+            kind: 0,
+            a: origin,
+            b: at,
+            c: end,
+            d: 0,
+        },
+    );
+    if at < end {
+        return Registers {
+            height: 0,
+            depth: 1,
+            used,
+            steps: 0,
+            errors: 0,
+            skipping: false,
+            ok: true,
+        };
+    }
+    Registers {
+        height: 0,
+        depth: 0,
+        used,
+        steps: 0,
+        errors: 0,
+        skipping: false,
+        ok: true,
+    }
+}
