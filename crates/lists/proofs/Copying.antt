@@ -1,24 +1,13 @@
--- The text of an identifier or a string with all that continues it, copied a piece at a time. In order: letters in lower case; data
--- joined before others; the pieces that continue; the whole text. Assumes nothing.
-use mathlib.Core.Path.{_≡_, refl, sym, ap, subst, _∙_}
-use mathlib.Core.Bool.{Bool, true, false, cond}
-use mathlib.Core.List.{List, [], _∷_, _++_, append-assoc, append-nil}
-use Prim.Native.Nat.{ℕ, zero, suc, _+_, _-_, _<_, _≤_}
-use native.Mathlib.Omega.{arith}
-use lib.ListN.{length, getD, set, length-append}
+-- The text of an identifier in lower case, and of a string as it is, byte by byte. Assumes nothing.
+use mathlib.Core.Path.{_≡_, refl, ap}
+use mathlib.Core.Bool.{Bool, true, false}
+use mathlib.Core.List.{List, [], _∷_, _++_}
+use Prim.Native.Nat.{ℕ, suc, _<_, _≤_}
+use lib.ListN.{length, getD, set}
 use lib.Seq.{slice, slice-cons, sets}
-use Rattle.table.proofs.Stores.{sets-append}
-use Rattle.tokens.specs.declared.Piece.{Piece}
-use Rattle.tokens.specs.declared.Piece.the-variants.{Data, Missing}
 use Rattle.tokens.specs.Text.{lowerOf, lowered}
-use Rattle.tokens.specs.Joined.{Joined, whole, cutAt, pieceAt, continued, onPiece, joinedFrom, joinedAt}
-use Rattle.tokens.proofs.Pieces.{Inside, inside, joined-data, joined-missing}
-use Rattle.tokens.proofs.Summaries.{part-length}
-use Rattle.tokens.proofs.Turns.{at-end, turn, went}
-use Rattle.tokens.specs.Joined.{dataOf}
-use Rattle.lists.specs.Filling.{shown, continuing, continuations, FitsText}
-
--- ---- lower case
+use Rattle.tokens.proofs.Copying.{Shows}
+use Rattle.lists.specs.Filling.{shown}
 
 pub shown-length : (lower : Bool) (d : List ℕ) → length (shown lower d) ≡ length d
 unfolding shown lowered
@@ -38,141 +27,10 @@ pub lower-next : (l : List ℕ) (at : ℕ) (x : List ℕ) (f t : ℕ) → f < t 
 unfolding shown lowered
 lower-next l at x f t h k = ap (λ (d : List ℕ). sets l at (lowered d)) (slice-cons f t x 0 h k)
 
--- the data e are stored after the data d, which end at q
-stored-after : (lower : Bool) (l l₁ l₂ : List ℕ) (o q : ℕ) (d e : List ℕ) → q ≡ o + length d → l₁ ≡ sets l o (shown lower d) → l₂ ≡ sets l₁ q (shown lower e) → l₂ ≡ sets l o (shown lower (d ++ e))
-stored-after lower l l₁ l₂ o q d e p f g =
-    let n : q ≡ o + length (shown lower d) = omega (arith, shown-length lower d) in
-    g ∙ rw (f, n, shown-append lower d e) (sets-append l o (shown lower d) (shown lower e))
-
--- ---- data joined before others
-
-abbrev before : List ℕ → Joined → Joined
-before f (whole d next) = whole (f ++ d) next
-before f (cutAt place) = cutAt place
-
-before-cond : (f : List ℕ) (b : Bool) (x y x′ y′ : Joined) → x ≡ before f x′ → y ≡ before f y′ → cond b x y ≡ before f (cond b x′ y′)
-before-cond f true x y x′ y′ e g = e
-before-cond f false x y x′ y′ e g = g
-
-before-piece : (f : List ℕ) (at : ℕ) (w : Piece) (g g′ : ℕ → ℕ → Joined) → ((a m : ℕ) → g a m ≡ before f (g′ a m)) → onPiece w (cutAt at) g ≡ before f (onPiece w (cutAt at) g′)
-unfolding onPiece
-before-piece f at (Data a m) g g′ e = e a m
-before-piece f at Missing g g′ e = refl
-
-from-before : (k : ℕ) (s : List ℕ) (at : ℕ) (f d : List ℕ) → joinedFrom k s at (f ++ d) ≡ before f (joinedFrom k s at d)
-unfolding joinedFrom
-from-before zero s at f d = refl
-from-before (suc k) s at f d =
-    before-cond f (continued (getD s at 0)) _ _ _ (whole d at)
-    (before-piece f at (pieceAt s at) _ (λ a m. joinedFrom k s (a + m) (d ++ slice a (a + m) s))
-    (λ a m. ap (joinedFrom k s (a + m)) (append-assoc f d (slice a (a + m) s)) ∙ from-before k s (a + m) f (d ++ slice a (a + m) s)))
-    refl
-
-from-none : (k : ℕ) (s : List ℕ) (at : ℕ) (f : List ℕ) → joinedFrom k s at f ≡ before f (joinedFrom k s at [])
-from-none k s at f = ap (joinedFrom k s at) (sym (append-nil f)) ∙ from-before k s at f []
-
-fits-before : (n o : ℕ) (f : List ℕ) (J : Joined) → FitsText n o (before f J) → (o + length f ≤ n) × FitsText n (o + length f) J × (dataOf (before f J) ≡ f ++ dataOf J)
-unfolding dataOf
-fits-before n o f (whole d next) h = (omega (arith, length-append f d), omega (arith, length-append f d), refl)
-fits-before n o f (cutAt place) h = absurd h
-
--- there is room for what was joined so far
-fits-so-far : (J : Joined) (n o k : ℕ) (s : List ℕ) (at : ℕ) (d : List ℕ) → joinedFrom k s at d ≡ J → FitsText n o J → o + length d ≤ n
-fits-so-far J n o k s at d e f = (fits-before n o d (joinedFrom k s at []) (subst (FitsText n o) (sym e ∙ from-none k s at d) f)) .0
-
--- ---- the pieces that continue
-
-pub none-left : (s : List ℕ) (at : ℕ) → length s ≤ at → continuing s at ≡ Missing
-none-left s at h = rw (at-end s at h)
-
-pub as-found : (lower : Bool) (l : List ℕ) (o : ℕ) → l ≡ sets l o (shown lower [])
+shown-none : (lower : Bool) → shown lower [] ≡ []
 unfolding shown lowered
-as-found true l o = refl
-as-found false l o = refl
+shown-none true = refl
+shown-none false = refl
 
--- the data d are copied from o to q, and what is left of J starts at `at`
-pub record Copied (J : Joined) (lower : Bool) (s text₀ text : List ℕ) (o k at q : ℕ) (d : List ℕ) : Type 0 where
-  pub room : length s ≤ at + k
-  pub place : q ≡ o + length d
-  pub same : length text ≡ length text₀
-  pub text-is : text ≡ sets text₀ o (shown lower d)
-  pub rest : joinedFrom k s at d ≡ J
-
-module _ {J : Joined} {lower : Bool} {s text₀ text : List ℕ} {o k at q : ℕ} {d : List ℕ} (C : Copied J lower s text₀ text o k at q d) (fits : FitsText (length text₀) o J) where
-  ends-by : (c : Bool) → continued (getD s at 0) ≡ c → continuing s at ≡ Missing → J ≡ whole d at
-  unfolding onPiece
-  ends-by true e h =
-      let p : pieceAt s at ≡ Missing = rw e at h in
-      let g : J ≡ cutAt at = sym (C .rest) ∙ turn k s at d (C .room) ∙ rw (e, p) in
-      absurd (subst (FitsText (length text₀) o) g fits)
-  ends-by false e h = sym (C .rest) ∙ turn k s at d (C .room) ∙ rw e
-
-  pub copied-end : continuing s at ≡ Missing → text ≡ sets text₀ o (shown lower (dataOf J))
-  unfolding dataOf
-  copied-end h = rw (ends-by (continued (getD s at 0)) refl h) (C .text-is)
-
-  module _ {f m : ℕ} (here : continuing s at ≡ Data f m) where
-    goes-by : (c : Bool) → continued (getD s at 0) ≡ c → (continued (getD s at 0) ≡ true) × (pieceAt s at ≡ Data f m)
-    goes-by true e = (e, rw e at here)
-    goes-by false e = absurd (let p = rw e at here in let z : _≡_ {A = ℕ} 0 1 = cc in omega arith)
-
-    piece : pieceAt s at ≡ Data f m
-    piece = goes-by (continued (getD s at 0)) refl .1
-
-    piece-in : (at < f) × (f + m ≤ length s)
-    piece-in = subst (Inside (length s) at) piece (inside s at)
-
-    part-size : length (slice f (f + m) s) ≡ m
-    part-size = part-length s f m (piece-in .1)
-
-    rest-is : joinedFrom (k - 1) s (f + m) (d ++ slice f (f + m) s) ≡ J
-    rest-is = went 0 J k s at d (C .room) (C .rest) f m (goes-by (continued (getD s at 0)) refl .0) piece
-
-    -- a piece that continues lies inside, and there is room for it
-    pub piece-fits : (at < f) × (f + m ≤ length s) × (q + m ≤ length text)
-    piece-fits =
-        let e = slice f (f + m) s in
-        (piece-in .0, piece-in .1, omega (arith, fits-so-far J (length text₀) o (k - 1) s (f + m) (d ++ e) rest-is fits, length-append d e, part-size, C .place, C .same))
-
-    pub copied-next : {text′ : List ℕ} → length text′ ≡ length text → text′ ≡ sets text q (shown lower (slice f (f + m) s)) → Copied J lower s text₀ text′ o (k - 1) (f + m) (q + m) (d ++ slice f (f + m) s)
-    copied-next {text′} n e =
-        let part = slice f (f + m) s in
-        record {
-          room = omega (arith, C .room, piece-in .0);
-          place = omega (arith, C .place, length-append d part, part-size);
-          same = n ∙ C .same;
-          text-is = stored-after lower text₀ text text′ o q d part (C .place) (C .text-is) e;
-          rest = rest-is;
-        }
-
--- ---- the whole text
-
-module _ (s : List ℕ) (at n o : ℕ) (fits : FitsText n o (joinedAt s at)) where
-  pub not-missing : pieceAt s at ≡ Missing → ⊥
-  not-missing p = subst (FitsText n o) (joined-missing s at p) fits
-
-  module _ {f m : ℕ} (p : pieceAt s at ≡ Data f m) where
-    abbrev first : List ℕ
-    first = slice f (f + m) s
-
-    abbrev rest : Joined
-    rest = continuations s (f + m)
-
-    first-in : f + m ≤ length s
-    first-in = (subst (Inside (length s) at) p (inside s at)) .1
-
-    joined-is : joinedAt s at ≡ before first rest
-    joined-is = joined-data s at f m p ∙ from-none (length s) s (f + m) first
-
-    apart : (o + length first ≤ n) × FitsText n (o + length first) rest × (dataOf (before first rest) ≡ first ++ dataOf rest)
-    apart = fits-before n o first rest (subst (FitsText n o) joined-is fits)
-
-    -- the first piece fits, and the rest after it
-    pub first-fits : (o + m ≤ n) × (f + m ≤ length s) × FitsText n (o + m) (continuations s (f + m))
-    first-fits = let e = part-length s f m first-in in (omega (arith, apart .0), first-in, rw e at (apart .1))
-
-    pub text-whole : (lower : Bool) (l : List ℕ) {l₁ l₂ : List ℕ} → l₁ ≡ sets l o (shown lower (slice f (f + m) s)) → l₂ ≡ sets l₁ (o + m) (shown lower (dataOf (continuations s (f + m))))
-        → l₂ ≡ sets l o (shown lower (dataOf (joinedAt s at)))
-    text-whole lower l {l₁} {l₂} g h =
-        let e = part-length s f m first-in in
-        rw (joined-is, apart .2) (stored-after lower l l₁ l₂ o (o + m) first (dataOf rest) (omega (arith, e)) g h)
+pub shows : (lower : Bool) → Shows (shown lower)
+shows lower = record { none = shown-none lower; all = shown-append lower; each = shown-length lower }

@@ -14,14 +14,14 @@ use Rattle.table.proofs.Stores.{sets-append, word-length}
 use Rattle.tokens.specs.declared.Read.{Read}
 use Rattle.tokens.specs.declared.Read.the-variants.{Number, Identifier, String, Operator, Comment, Unread}
 use Rattle.tokens.specs.declared.Refusal.{Refusal}
-use Rattle.tokens.specs.Joined.{joinedAt}
+use Rattle.tokens.specs.Joined.{joinedAt, FitsText}
 use Rattle.tokens.specs.Text.{every, isName}
 use Rattle.tokens.specs.declared.Rule.the-variants.{Plain, Named}
 use Rattle.tokens.proofs.Told.{Told, Text}
 use Rattle.lists.specs.Tokens.{Token, number, operator}
 use Rattle.tokens.specs.Joined.{dataOf}
 use Rattle.lists.specs.Promise.{fourWords, textOf, textsOf, wordsOf, listOf}
-use Rattle.lists.specs.Filling.{shown, textToken, added, nextOf, FitsText, Whole, Put, Room}
+use Rattle.lists.specs.Filling.{shown, textToken, added, nextOf, Whole, Put, Room}
 use Rattle.lists.proofs.SameTables.{words-length}
 use Rattle.lists.proofs.Surveying.{text-one, text-of, text-length}
 

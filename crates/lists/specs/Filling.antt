@@ -53,19 +53,6 @@ unfoldable pub textToken : Bool → List ℕ → Token
 textToken true d = identifier d
 textToken false d = string d
 
--- the data of the continued token at `at`; missing where none continues
-abbrev pub continuing : List ℕ → ℕ → Piece
-continuing s at = cond (continued (getD s at 0)) (pieceAt s at) Missing
-
--- the data of all continued tokens from `at` on
-abbrev pub continuations : List ℕ → ℕ → Joined
-continuations s at = joinedFrom (length s) s at []
-
--- whole data that fit at o in a table of n bytes
-abbrev pub FitsText : ℕ → ℕ → Joined → Type 0
-FitsText n o (whole d next) = o + length d ≤ n
-FitsText n o (cutAt place) = ⊥
-
 -- ---- a token
 
 -- what a token that was read adds to the list

@@ -6,9 +6,9 @@ ghost use lib.Seq.{sets, slice};
 ghost use mir.Syntax.{w32};
 ghost use mir.Val.{ofZ};
 ghost use Rattle.tokens.specs.declared.Outcome.the-variants.{Refused};
-ghost use Rattle.tokens.specs.Joined.{dataOf, joinedAt};
+ghost use Rattle.tokens.specs.Joined.{dataOf, joinedAt, continuations, FitsText};
 ghost use Rattle.lists.specs.Promise.{fourWords, ReadsBack};
-ghost use Rattle.lists.specs.Filling.{tokensIn, stepOf, surveyOf, shown, continuing, continuations, FitsText, Put, Room, Holds, tokensGot, Fills};
+ghost use Rattle.lists.specs.Filling.{tokensIn, stepOf, surveyOf, shown, Put, Room, Holds, tokensGot, Fills};
 use crate::Place;
 use crate::Step;
 use crate::Survey;
@@ -88,17 +88,6 @@ fn put_part(lower: bool, text: &mut [u8], o: usize, s: &[u8], from: usize, len: 
     }
 }
 
-// The data of the continued token at `at`, if one is there and the input has them.
-fn next_piece(s: &[u8], at: usize) -> tokens::Piece
-    requires { ⌜ at < length (now s) ⌝ }
-    ensures { λ r. ⌜ r ≡ continuing (now (s .entry)) at ⌝ }
-{
-    if tokens::sequences::is_continued(s[at]) {
-        return tokens::sequences::piece_at(s, at);
-    }
-    tokens::Piece::Missing
-}
-
 // Copies the data of all continued tokens from `start` on to `o`.
 fn copy_from(lower: bool, s: &[u8], start: usize, text: &mut [u8], o: usize)
     requires { ⌜ FitsText (length (now text)) o (continuations (now s) start) ⌝ }
@@ -107,7 +96,7 @@ fn copy_from(lower: bool, s: &[u8], start: usize, text: &mut [u8], o: usize)
     let mut at = start;
     let mut q = o;
     while at < s.len() {
-        match next_piece(s, at) {
+        match tokens::sequences::next_piece(s, at) {
             tokens::Piece::Missing => {
                 return;
             }

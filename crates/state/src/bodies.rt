@@ -32,20 +32,13 @@ pub fn begin(w: &mut [u8], r: Registers, next: u32) -> Registers
     q
 }
 
-fn word(x: usize) -> u32
-    requires { ⌜ x < 4294967296 ⌝ }
-    ensures { λ r. ⌜ r ≡ x ⌝ }
-{
-    x as u32
-}
-
 // The context d, with a frame copied from the slot s on.
 fn put_context(w: &mut [u8], id: usize, d: usize, s: usize, origin: u32, at: u32, end: u32, owes: u32)
     requires { ⌜ (id < 4294967296) × (d < 12) × (s + 50 ≤ 2400) × (48000 ≤ length (now w)) ⌝ }
     ensures { λ _. ⌜ slots (now (w .exit)) ≡ contextPut (slots (now (w .entry))) id d s origin at end owes ⌝ }
 {
     table::slots::copy(w, s, 128 + 50 * d, 50);
-    let i = word(id);
+    let i = crate::values::word(id);
     table::slots::put(
         w,
         1752 + d,

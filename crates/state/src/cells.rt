@@ -20,14 +20,6 @@ pub fn element(w: &mut [u8], r: Registers, k: usize) -> Registers
     crate::stack::push_slot(w, r, u)
 }
 
-// A count as a word.
-fn word(x: usize) -> u32
-    requires { ⌜ x < 4294967296 ⌝ }
-    ensures { λ r. ⌜ r ≡ x ⌝ }
-{
-    x as u32
-}
-
 // MAKEVEC and MAKEVECLU: the topmost n values become cells, and a vector of them takes their place.
 pub fn build(w: &mut [u8], r: Registers, lower: u32, n: usize) -> Registers
     requires { ⌜ Busy (now w) r ⌝ }
@@ -48,8 +40,8 @@ pub fn build(w: &mut [u8], r: Registers, lower: u32, n: usize) -> Registers
         }
         let a = height - n;
         table::slots::copy(w, a, 728 + used, n);
-        let first = word(used);
-        let count = word(n);
+        let first = crate::values::word(used);
+        let count = crate::values::word(n);
         table::slots::put(
             w,
             a,
@@ -86,7 +78,7 @@ pub fn compose(w: &mut [u8], r: Registers, start: u32, len: u32) -> Registers
     }
     let c = table::slots::get(w, 1752 + (d - 1));
     table::slots::copy(w, 128 + 50 * (d - 1), 728 + used, 50);
-    let first = word(used);
+    let first = crate::values::word(used);
     table::slots::put(
         w,
         height,

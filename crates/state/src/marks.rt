@@ -99,14 +99,6 @@ pub fn remove(w: &mut [u8], r: Registers, n: usize) -> Registers
     crate::stack::failed(r)
 }
 
-// A count as a word.
-fn word(x: usize) -> u32
-    requires { ⌜ x < 4294967296 ⌝ }
-    ensures { λ r. ⌜ r ≡ x ⌝ }
-{
-    x as u32
-}
-
 // COUNT: how many values stand above the running context's own mark.
 pub fn tally(w: &mut [u8], r: Registers) -> Registers
     requires { ⌜ Busy (now w) r ⌝ }
@@ -126,7 +118,7 @@ pub fn tally(w: &mut [u8], r: Registers) -> Registers
     if v.a != c.kind {
         return crate::stack::failed(r);
     }
-    let n = word(k);
+    let n = crate::values::word(k);
     crate::stack::push_slot(
         w,
         r,

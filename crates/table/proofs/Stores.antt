@@ -8,7 +8,7 @@ use lib.ListN.{length, getD, set, drop}
 use lib.Seq.{slice, slice-cons, sets, sets-eq, set-comm, getD-append-add}
 use Rattle.table.specs.Words.{wordAt, wordBytes}
 
-pub sets-append : (l : List ℕ) (at : ℕ) (xs ys : List ℕ) → sets (sets l at xs) (at + length xs) ys ≡ sets l at (xs ++ ys)
+pub sets-append : {A : Type 0} (l : List A) (at : ℕ) (xs ys : List A) → sets (sets l at xs) (at + length xs) ys ≡ sets l at (xs ++ ys)
 sets-append l at [] ys = rw add-zero
 sets-append l at (x ∷ xs) ys =
     let e : at + suc (length xs) ≡ suc at + length xs = omega arith in

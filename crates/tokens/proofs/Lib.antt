@@ -8,6 +8,7 @@ pub mod Pieces
 pub mod Summaries
 pub mod Sizes
 pub mod Turns
+pub mod Copying
 pub mod Judged
 pub mod Ends
 pub mod Told

@@ -1,6 +1,6 @@
 -- The data of a sequence: its own, and those of the continued sequences that directly follow it (000, 2.5.1; 01, Tokens; R1, R2, R3).
 -- Past the end of the input every byte reads as 0, so that missing length bytes and missing data are one test. Assumes nothing.
-use Prim.Native.Nat.{ℕ, zero, suc, _+_, _%_}
+use Prim.Native.Nat.{ℕ, zero, suc, _+_, _%_, _≤_}
 use mathlib.Core.List.{List, [], _++_}
 use mathlib.Core.Bool.{Bool, cond, _&&_}
 use lib.Dec.{ltb, leb, eqb}
@@ -52,3 +52,18 @@ joinedAt s at = onPiece (pieceAt s at) (cutAt at) (λ start n. joinedFrom (lengt
 unfoldable pub dataOf : Joined → List ℕ
 dataOf (whole d next) = d
 dataOf (cutAt place) = []
+
+-- ---- a piece at a time
+
+-- the data of the continued token at `at`; missing where none continues
+abbrev pub continuing : List ℕ → ℕ → Piece
+continuing s at = cond (continued (getD s at 0)) (pieceAt s at) Missing
+
+-- the data of all continued tokens from `at` on
+abbrev pub continuations : List ℕ → ℕ → Joined
+continuations s at = joinedFrom (length s) s at []
+
+-- whole data that fit at o in a table of n elements
+abbrev pub FitsText : ℕ → ℕ → Joined → Type 0
+FitsText n o (whole d next) = o + length d ≤ n
+FitsText n o (cutAt place) = ⊥

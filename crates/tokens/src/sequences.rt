@@ -7,7 +7,7 @@ ghost use lib.ListN.{length, getD, take};
 ghost use lib.Seq.{slice};
 ghost use Rattle.tokens.specs.Bytes.{valueAfter};
 ghost use Rattle.tokens.specs.Text.{every};
-ghost use Rattle.tokens.specs.Joined.{lengthBytes, pieceAt, continued, joinedFrom};
+ghost use Rattle.tokens.specs.Joined.{lengthBytes, pieceAt, continued, joinedFrom, continuing};
 ghost use Rattle.tokens.specs.Inner.{ruleOf, roomOf, added, Fitting, FittingSum, gatheredOf};
 use crate::Gathered;
 use crate::Piece;
@@ -47,6 +47,17 @@ pub fn is_continued(b: u8) -> bool
         return false;
     }
     low5(b) == 7
+}
+
+// The data of the continued token at `at`, if one is there and the input has them.
+pub fn next_piece(s: &[u8], at: usize) -> Piece
+    requires { ⌜ at < length (now s) ⌝ }
+    ensures { λ r. ⌜ r ≡ continuing (now (s .entry)) at ⌝ }
+{
+    if is_continued(s[at]) {
+        return piece_at(s, at);
+    }
+    Piece::Missing
 }
 
 fn rule_of(k: u8) -> Rule

@@ -7,13 +7,15 @@ use lib.ListN.{length}
 use lib.Seq.{slice}
 use borrow.Author.Needs.{needs}
 use Rattle.tokens.specs.declared.Piece.the-variants.{Data}
-use Rattle.lists.specs.Filling.{continuing, continuations}
-use Rattle.lists.proofs.Copying.{Copied, as-found, none-left, copied-end, piece-fits, copied-next}
+use Rattle.tokens.specs.Joined.{continuing, continuations}
+use Rattle.tokens.proofs.Copying.{Copied, as-found, none-left, copied-end, piece-fits, copied-next}
+use Rattle.lists.specs.Filling.{shown}
+use Rattle.lists.proofs.Copying.{shows}
 use Rattle.lists.proofs.back.copy_from.Statement.{statement}
 use Rattle.lists.proofs.back.copy_from.Tie as tie
 
 abbrev Inv-loop : tie.InvT-loop
-Inv-loop lower s start text₀ o at₀ q₀ text at q = (k : ℕ) × (d : List ℕ) × Copied (continuations s start) lower s text₀ text o k at q d
+Inv-loop lower s start text₀ o at₀ q₀ text at q = (k : ℕ) × (d : List ℕ) × Copied (shown lower) (continuations s start) s text₀ text o k at q d
 
 abbrev μ-loop : tie.MeasureT-loop
 μ-loop lower s start text₀ o at₀ q₀ text at q = length s - at
@@ -27,16 +29,16 @@ copy-from-spec =
     (tie.spec
     Inv-loop
     μ-loop
-    (λ c. let a = c .before .before .args in (length (a .s .now), [], record { room = omega arith; place = omega arith; same = refl; text-is = as-found (a .lower) (a .text .now) (a .o); rest = refl }))
+    (λ c. let a = c .before .before .args in (length (a .s .now), [], record { room = omega arith; place = omega arith; same = refl; text-is = as-found (shown (a .lower)) (shows (a .lower)) (a .text .now) (a .o); rest = refl }))
     (λ c κs. omega arith)
     (λ c. search needs)
     (λ c. c .before .before .before .before .loop .inv .2 .same)
-    (λ c. copied-end (c .before .before .before .before .loop .inv .2) (c .before .before .before .before .before .before .before .pre) (sym (c .before .before .next-piece .ensures) ∙ c .enum-told .given .1))
+    (λ c. copied-end (shows _) (c .before .before .before .before .loop .inv .2) (c .before .before .before .before .before .before .before .pre) (sym (c .before .before .next-piece .ensures) ∙ c .enum-told .given .1))
     (λ c. search needs)
-    (λ c κs. let w = piece-fits (c .before .before .before .before .before .before .loop .inv .2) (c .before .before .before .before .before .before .before .before .before .pre) (here (c .before)) in (omega (arith, w .2), w .1))
-    (λ c. omega (arith, piece-fits (c .before .before .before .before .before .before .before .before .before .loop .inv .2) (c .before .before .before .before .before .before .before .before .before .before .before .before .pre) (here (c .before .before .before .before)) .1))
-    (λ c. omega (arith, piece-fits (c .before .before .before .before .before .before .before .before .before .loop .inv .2) (c .before .before .before .before .before .before .before .before .before .before .before .before .pre) (here (c .before .before .before .before)) .2, c .before .before .before .before .before .before .before .before .before .loop .inv .2 .same))
-    (λ c. let w = piece-fits (c .before .before .before .before .before .before .before .before .before .loop .inv .2) (c .before .before .before .before .before .before .before .before .before .before .before .before .pre) (here (c .before .before .before .before)) in omega (arith, w .0, w .1))
-    (λ c. let i = c .before .before .before .before .before .before .before .before .before .loop .inv in let f : ℕ = c .before .before .before .before .before .from .given .0 .0 in (i .0 - 1, i .1 ++ slice f (f + c .before .before .before .before .before .from .given .0 .1 .0) (c .before .before .before .before .before .before .before .before .before .before .before .before .args .s .now), copied-next (i .2) (c .before .before .before .before .before .before .before .before .before .before .before .before .pre) (here (c .before .before .before .before)) (c .before .before .put-part .kept .1 .0) (c .before .before .put-part .ensures)))
+    (λ c κs. let w = piece-fits (shows _) (c .before .before .before .before .before .before .loop .inv .2) (c .before .before .before .before .before .before .before .before .before .pre) (here (c .before)) in (omega (arith, w .2), w .1))
+    (λ c. omega (arith, piece-fits (shows _) (c .before .before .before .before .before .before .before .before .before .loop .inv .2) (c .before .before .before .before .before .before .before .before .before .before .before .before .pre) (here (c .before .before .before .before)) .1))
+    (λ c. omega (arith, piece-fits (shows _) (c .before .before .before .before .before .before .before .before .before .loop .inv .2) (c .before .before .before .before .before .before .before .before .before .before .before .before .pre) (here (c .before .before .before .before)) .2, c .before .before .before .before .before .before .before .before .before .loop .inv .2 .same))
+    (λ c. let w = piece-fits (shows _) (c .before .before .before .before .before .before .before .before .before .loop .inv .2) (c .before .before .before .before .before .before .before .before .before .before .before .before .pre) (here (c .before .before .before .before)) in omega (arith, w .0, w .1))
+    (λ c. let i = c .before .before .before .before .before .before .before .before .before .loop .inv in let f : ℕ = c .before .before .before .before .before .from .given .0 .0 in (i .0 - 1, i .1 ++ slice f (f + c .before .before .before .before .before .from .given .0 .1 .0) (c .before .before .before .before .before .before .before .before .before .before .before .before .args .s .now), copied-next (shows _) (i .2) (c .before .before .before .before .before .before .before .before .before .before .before .before .pre) (here (c .before .before .before .before)) (c .before .before .put-part .kept .1 .0) (c .before .before .put-part .ensures)))
     (λ c. c .before .loop .inv .2 .same)
-    (λ c. copied-end (c .before .loop .inv .2) (c .before .before .before .before .pre) (none-left (c .before .before .before .before .args .s .now) (c .before .loop .at) (omega arith))))
+    (λ c. copied-end (shows _) (c .before .loop .inv .2) (c .before .before .before .before .pre) (none-left (c .before .before .before .before .args .s .now) (c .before .loop .at) (omega arith))))

@@ -5,9 +5,10 @@ use native.Mathlib.Omega.{arith}
 use lib.ListN.{length}
 use borrow.Author.Needs.{needs}
 use Rattle.tokens.specs.declared.Piece.the-variants.{Data}
-use Rattle.tokens.specs.Joined.{pieceAt}
-use Rattle.lists.specs.Filling.{FitsText, continuations}
-use Rattle.lists.proofs.Copying.{not-missing, first-fits, text-whole}
+use Rattle.tokens.specs.Joined.{pieceAt, FitsText, continuations}
+use Rattle.tokens.proofs.Copying.{not-missing, first-fits, text-whole}
+use Rattle.lists.specs.Filling.{shown}
+use Rattle.lists.proofs.Copying.{shows}
 use Rattle.lists.proofs.back.copy_text.Statement.{statement}
 use Rattle.lists.proofs.back.copy_text.Tie as tie
 
@@ -31,4 +32,4 @@ copy-text-spec =
     (λ c. omega (arith, begun (c .before .before .before .before .before) .0))
     (λ c κs. let a = c .before .before .before .before .before .before .before .before .before .before .before .args in let g = c .before .before .before .before .before .before .start .given .0 in subst (λ (n : ℕ). FitsText n (a .o + g .1 .0) (continuations (a .s .now) (g .0 + g .1 .0))) (sym (c .before .before .before .put-part .kept .1 .0)) (begun (c .before .before .before .before .before) .2))
     (λ c. search needs)
-    (λ c. let a = c .before .before .before .before .before .before .before .before .before .before .before .before .before .before .args in text-whole (a .s .now) (a .at) (length (a .text .now)) (a .o) (c .before .before .before .before .before .before .before .before .before .before .before .before .before .before .pre .1) (here (c .before .before .before .before .before .before .before .before)) (a .lower) (a .text .now) (c .before .before .before .before .before .before .put-part .ensures) (c .before .before .copy-from .ensures)))
+    (λ c. let a = c .before .before .before .before .before .before .before .before .before .before .before .before .before .before .args in text-whole (a .s .now) (a .at) (length (a .text .now)) (a .o) (c .before .before .before .before .before .before .before .before .before .before .before .before .before .before .pre .1) (here (c .before .before .before .before .before .before .before .before)) (shown (a .lower)) (shows (a .lower)) (a .text .now) (c .before .before .before .before .before .before .put-part .ensures) (c .before .before .copy-from .ensures)))

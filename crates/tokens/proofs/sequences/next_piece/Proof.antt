@@ -1,7 +1,7 @@
--- `back::next_piece` meets its contract: it looks at the first byte. Assumes nothing.
+-- `sequences::next_piece` meets its contract: it looks at the first byte. Assumes nothing.
 use borrow.Author.Needs.{needs}
-use Rattle.lists.proofs.back.next_piece.Statement.{statement}
-use Rattle.lists.proofs.back.next_piece.Tie as tie
+use Rattle.tokens.proofs.sequences.next_piece.Statement.{statement}
+use Rattle.tokens.proofs.sequences.next_piece.Tie as tie
 
 pub next-piece-spec : {M : Type 1} → statement M
 next-piece-spec =
