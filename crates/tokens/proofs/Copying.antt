@@ -1,16 +1,23 @@
 -- The data of a sequence with all that continues it, stored a piece at a time into a list of elements, each byte as one of them. In
--- order: data joined before others; the pieces that continue; the whole. Assumes nothing.
+-- order: data joined before others; the pieces that continue; the whole; how many bytes. Assumes nothing.
 use mathlib.Core.Path.{_≡_, refl, sym, ap, subst, _∙_}
 use mathlib.Core.Bool.{Bool, true, false, cond}
-use mathlib.Core.List.{List, [], _++_, append-assoc, append-nil}
+use mathlib.Core.List.{List, [], _∷_, _++_, append-assoc, append-nil}
 use Prim.Native.Nat.{ℕ, zero, suc, _+_, _-_, _<_, _≤_}
 use native.Mathlib.Omega.{arith}
-use lib.ListN.{length, getD, length-append}
+use borrow.Author.Tests.{lt-leb}
+use lib.ListN.{length, getD, take, drop, length-append}
 use lib.Seq.{slice, sets}
 use Rattle.table.proofs.Stores.{sets-append}
 use Rattle.tokens.specs.declared.Piece.{Piece}
 use Rattle.tokens.specs.declared.Piece.the-variants.{Data, Missing}
-use Rattle.tokens.specs.Joined.{Joined, whole, cutAt, pieceAt, continued, onPiece, joinedFrom, joinedAt, dataOf, continuing, continuations, FitsText}
+use Rattle.tokens.specs.declared.Summary.{Summary}
+use Rattle.tokens.specs.declared.Gathered.{Gathered}
+use Rattle.tokens.specs.declared.Gathered.the-variants.{Whole, Broken}
+use Rattle.tokens.specs.Bytes.{valueOf}
+use Rattle.tokens.specs.Text.{every}
+use Rattle.tokens.specs.Inner.{ruleOf, roomOf, summaryOf, gatheredOf}
+use Rattle.tokens.specs.Joined.{Joined, whole, cutAt, lengthBytes, within, pieceAt, continued, onPiece, joinedFrom, joinedAt, dataOf, continuing, continuations, FitsText}
 use Rattle.tokens.proofs.Pieces.{Inside, inside, joined-data, joined-missing}
 use Rattle.tokens.proofs.Summaries.{part-length}
 use Rattle.tokens.proofs.Turns.{at-end, turn, went}
@@ -157,3 +164,77 @@ module _ (s : List ℕ) (at n o : ℕ) (fits : FitsText n o (joinedAt s at)) whe
     text-whole sh S l {l₁} {l₂} g h =
         let e = part-length s f m first-in in
         rw (joined-is, apart .2) (stored-after sh S l l₁ l₂ o (o + m) first (dataOf rest) (omega (arith, e)) g h)
+
+-- ---- how many, and that they are bytes
+
+pub none-past : (s : List ℕ) (at : ℕ) → length s ≤ at → 0 ≡ length (dataOf (joinedAt s at))
+unfolding joinedAt onPiece pieceAt within dataOf
+none-past s at h =
+    let k = lengthBytes (getD s at 0) in
+    let n = valueOf (slice (at + 1) (at + 1 + k) s) in
+    rw (lt-leb (at + 1 + k + n) (length s) (omega arith))
+
+pub none-missing : (s : List ℕ) (at : ℕ) → pieceAt s at ≡ Missing → 0 ≡ length (dataOf (joinedAt s at))
+unfolding dataOf
+none-missing s at p = rw (joined-missing s at p)
+
+size-of : (t : ℕ) (J : Joined) (g : Summary) (next : ℕ) → gatheredOf t J ≡ Whole g next → g .len ≡ length (dataOf J)
+unfolding gatheredOf summaryOf dataOf
+size-of t (whole d n) g next e = let f : record { len = length d; first = getD d 0 0; value = valueOf (take (roomOf t) d); good = every (ruleOf t) d } ≡ g = cc in ap (λ (x : Summary). x .len) (sym f)
+size-of t (cutAt place) g next e = let z : _≡_ {A = ℕ} 0 1 = cc in absurd (omega arith)
+
+none-cut : (t : ℕ) (J : Joined) (place : ℕ) → gatheredOf t J ≡ Broken place → 0 ≡ length (dataOf J)
+unfolding gatheredOf dataOf
+none-cut t (whole d n) place e = let z : _≡_ {A = ℕ} 0 1 = cc in absurd (omega arith)
+none-cut t (cutAt p) place e = refl
+
+module _ (s : List ℕ) (at f n t : ℕ) (r : Gathered) (p : pieceAt s at ≡ Data f n) (e : r ≡ gatheredOf t (joinedFrom (length s) s (f + n) (slice f (f + n) s))) where
+  pub size-whole : {g : Summary} {next : ℕ} → r ≡ Whole g next → g .len ≡ length (dataOf (joinedAt s at))
+  size-whole {g} {next} h = rw (joined-data s at f n p) (size-of t _ g next (sym e ∙ h))
+
+  pub size-cut : {place : ℕ} → r ≡ Broken place → 0 ≡ length (dataOf (joinedAt s at))
+  size-cut {place} h = rw (joined-data s at f n p) (none-cut t _ place (sym e ∙ h))
+
+abbrev pub Bytes : List ℕ → Type 0
+Bytes s = (i : ℕ) → getD s i 0 < 256
+
+bytes-append : (d e : List ℕ) → Bytes d → Bytes e → Bytes (d ++ e)
+bytes-append [] e f g i = g i
+bytes-append (b ∷ d) e f g zero = f 0
+bytes-append (b ∷ d) e f g (suc i) = bytes-append d e (λ j. f (suc j)) g i
+
+bytes-take : (n : ℕ) (s : List ℕ) → Bytes s → Bytes (take n s)
+bytes-take zero s f i = omega arith
+bytes-take (suc n) [] f i = omega arith
+bytes-take (suc n) (b ∷ s) f zero = f 0
+bytes-take (suc n) (b ∷ s) f (suc i) = bytes-take n s (λ j. f (suc j)) i
+
+bytes-drop : (n : ℕ) (s : List ℕ) → Bytes s → Bytes (drop n s)
+bytes-drop zero s f i = f i
+bytes-drop (suc n) [] f i = omega arith
+bytes-drop (suc n) (b ∷ s) f i = bytes-drop n s (λ j. f (suc j)) i
+
+bytes-slice : (a b : ℕ) (s : List ℕ) → Bytes s → Bytes (slice a b s)
+bytes-slice a b s f i = bytes-drop a (take b s) (bytes-take b s f) i
+
+bytes-piece : (w : Piece) (at : ℕ) (g : ℕ → ℕ → Joined) → ((a m : ℕ) → Bytes (dataOf (g a m))) → Bytes (dataOf (onPiece w (cutAt at) g))
+unfolding onPiece dataOf
+bytes-piece (Data a m) at g h i = h a m i
+bytes-piece Missing at g h i = omega arith
+
+bytes-cond : (b : Bool) (x y : Joined) → Bytes (dataOf x) → Bytes (dataOf y) → Bytes (dataOf (cond b x y))
+bytes-cond true x y f g i = f i
+bytes-cond false x y f g i = g i
+
+bytes-from : (k : ℕ) (s : List ℕ) (at : ℕ) (d : List ℕ) → Bytes s → Bytes d → Bytes (dataOf (joinedFrom k s at d))
+unfolding joinedFrom dataOf
+bytes-from zero s at d f g i = g i
+bytes-from (suc k) s at d f g i =
+    bytes-cond (continued (getD s at 0)) _ (whole d at)
+    (bytes-piece (pieceAt s at) at _ (λ a m. bytes-from k s (a + m) (d ++ slice a (a + m) s) f (bytes-append d (slice a (a + m) s) g (bytes-slice a (a + m) s f))))
+    g i
+
+-- the joined data of bytes are bytes
+pub data-bytes : (s : List ℕ) (at : ℕ) → Bytes s → Bytes (dataOf (joinedAt s at))
+unfolding joinedAt
+data-bytes s at f i = bytes-piece (pieceAt s at) at _ (λ a m. bytes-from (length s) s (a + m) (slice a (a + m) s) f (bytes-slice a (a + m) s f)) i

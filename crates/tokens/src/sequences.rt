@@ -7,7 +7,7 @@ ghost use lib.ListN.{length, getD, take};
 ghost use lib.Seq.{slice};
 ghost use Rattle.tokens.specs.Bytes.{valueAfter};
 ghost use Rattle.tokens.specs.Text.{every};
-ghost use Rattle.tokens.specs.Joined.{lengthBytes, pieceAt, continued, joinedFrom, continuing};
+ghost use Rattle.tokens.specs.Joined.{lengthBytes, pieceAt, continued, joinedFrom, joinedAt, dataOf, continuing};
 ghost use Rattle.tokens.specs.Inner.{ruleOf, roomOf, added, Fitting, FittingSum, gatheredOf};
 use crate::Gathered;
 use crate::Piece;
@@ -181,4 +181,26 @@ pub fn gather(k: u8, s: &[u8], start: usize, len: usize) -> Gathered
         }
     }
     Gathered::Whole { sum, next: at }
+}
+
+// How many bytes of data the sequence token at `at` has, with all that continues it; 0 where they are cut off. The type 31 has no rule.
+pub fn data_size(s: &[u8], at: usize) -> usize
+    ensures { λ r. ⌜ r ≡ length (dataOf (joinedAt (now (s .entry)) at)) ⌝ }
+{
+    if at >= s.len() {
+        return 0;
+    }
+    match piece_at(s, at) {
+        Piece::Missing => {
+            return 0;
+        }
+        Piece::Data { start, len } => match gather(31, s, start, len) {
+            Gathered::Broken { place } => {
+                return 0;
+            }
+            Gathered::Whole { sum, next } => {
+                return sum.len;
+            }
+        },
+    }
 }
