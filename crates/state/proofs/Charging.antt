@@ -1,24 +1,35 @@
--- Cells charged: MAKEVEC, MAKEVECLU and MAKESIMPLECO. Assumes nothing.
+-- Cells charged: MAKEVEC, MAKEVECLU, MAKESIMPLECO and strings. Assumes nothing.
 use mathlib.Core.Path.{_≡_, refl, ap, ap₂, sym, _∙_}
 use mathlib.Core.Bool.{Bool, true, false}
-use mathlib.Core.Logic.{inl, inr}
+use mathlib.Core.Logic.{_⊎_, inl, inr}
 use mathlib.Core.List.{List, [], _∷_, _++_, map, reverse, reverse-cons, append-nil}
-use mathlib.Core.Option.{some}
+use mathlib.Core.Option.{Option, none}
 use Prim.Native.Nat.{ℕ, suc, _+_, _-_, _*_, _≤_, _<_}
 use native.Mathlib.Omega.{arith}
 use borrow.Author.Tests.{le-leb, lt-leb}
 use lib.Dec.{eqb, leb}
 use lib.ListN.{length, getD, set, take, length-set, length-append}
+use lib.Seq.{getD-set-same, getD-set-other}
+use mir.Syntax.{w32}
+use mir.Facts.{toZ-pos}
 use Rattle.table.specs.declared.Slot.{Slot}
-use Rattle.table.specs.Slots.{nil, mk, slots, desc, copied}
-use Rattle.table.proofs.Moves.{same-set, same-copied, same-then, length-copied, desc-asc}
+use Rattle.table.specs.Slots.{nil, mk, slots, asc, desc, copied}
+use Rattle.table.proofs.SlotLists.{roomy}
+use Rattle.table.proofs.Moves.{Same, same-set, same-copied, same-then, length-copied, desc-asc}
 use Rattle.machine.specs.declared.Value.{Value}
-use Rattle.machine.specs.declared.Value.the-variants.{Vector, Operator}
+use Rattle.machine.specs.declared.Value.the-variants.{Number, Vector, Operator}
 use Rattle.machine.specs.State.{Entry, val, mark, State, running}
 use Rattle.machine.specs.Contexts.{above, over}
-use Rattle.machine.specs.Engine.{fits, limited, provided, values, charge, build, compose}
+use Rattle.machine.specs.Engine.{fits, limited, provided, values, charge, build, compose, place}
 use Rattle.state.specs.declared.Registers.{Registers}
-use Rattle.state.specs.Layout.{valueIn, entryIn, stackOf, valuesAt, frameAt, contextIn, aside, abs, Busy, Tried}
+use Rattle.state.specs.Layout.{valueIn, entryIn, stackOf, valuesAt, frameAt, contextIn, abs, Busy, Tried}
+use lib.ListN.{length-map}
+use lib.Seq.{sets, length-sets, slice, slice-cons}
+use Rattle.tokens.specs.Joined.{Joined, whole, cutAt, dataOf, joinedAt, FitsText}
+use Rattle.tokens.proofs.Copying.{Shows, Bytes, data-bytes}
+use Rattle.machine.specs.Literal.{numbers, lettersAt}
+use Rattle.state.specs.Operations.{letterSlots, spell}
+use Rattle.state.proofs.Cutting.{map-append}
 use Rattle.state.proofs.Parts.{wide, room-of, stack-same, values-same, contexts-same, aside-same, length-stack, length-values, length-contexts, stack-more, contexts-at}
 use Rattle.state.proofs.Ending.{state-path}
 use Rattle.state.proofs.Cutting.{over-take, over-above, over-drop, stack-taken, stack-dropped, values-moved, values-cut}
@@ -50,8 +61,8 @@ values-of (v ∷ vs) (x ∷ l) e =
     let t : over vs [] ≡ map entryIn l = cc in
     ap₂ _∷_ (value-of v x h) (values-of vs l t)
 
-top-values : (m : List Slot) (n height : ℕ) → n ≤ height → n ≤ length (above (stackOf m height)) → take n (above (stackOf m height)) ≡ map valueIn (desc m (height - n) n)
-top-values m n height h k = values-of (take n (above (stackOf m height))) (desc m (height - n) n) (over-take (stackOf m height) n [] k ∙ append-nil _ ∙ stack-taken m n height h)
+top-values : (m : List Slot) (n sp : ℕ) → n ≤ sp → n ≤ length (above (stackOf m sp)) → take n (above (stackOf m sp)) ≡ map valueIn (desc m (sp - n) n)
+top-values m n sp h k = values-of (take n (above (stackOf m sp))) (desc m (sp - n) n) (over-take (stackOf m sp) n [] k ∙ append-nil _ ∙ stack-taken m n sp h)
 
 map-snoc : {A B : Type 0} (f : A → B) (k : List A) (a : A) → map f (k ++ (a ∷ [])) ≡ map f k ++ (f a ∷ [])
 map-snoc f [] a = refl
@@ -61,45 +72,55 @@ map-reverse : {A B : Type 0} (f : A → B) (l : List A) → reverse (map f l) �
 map-reverse f [] = refl
 map-reverse f (a ∷ l) = reverse-cons (f a) (map f l) ∙ ap (λ x. x ++ (f a ∷ [])) (map-reverse f l) ∙ sym (ap (map f) (reverse-cons a l) ∙ map-snoc f (reverse l) a)
 
-charged : (m : List Slot) (n height : ℕ) → n ≤ height → n ≤ length (above (stackOf m height)) → reverse (take n (above (stackOf m height))) ≡ valuesAt m (height - n) n
+charged : (m : List Slot) (n sp : ℕ) → n ≤ sp → n ≤ length (above (stackOf m sp)) → reverse (take n (above (stackOf m sp))) ≡ valuesAt m (sp - n) n
 unfolding valuesAt
-charged m n height h k = rw (top-values m n height h k) (map-reverse valueIn (desc m (height - n) n) ∙ ap (map valueIn) (sym (desc-asc m (height - n) n)))
+charged m n sp h k = rw (top-values m n sp h k) (map-reverse valueIn (desc m (sp - n) n) ∙ ap (map valueIn) (sym (desc-asc m (sp - n) n)))
 
--- ---- a value at a, and n values that were at s charged as cells
+-- ---- the value v at a, and n cells more: m₁ is the table with the cells
 
-module _ {w : List ℕ} {r : Registers} (a s n : ℕ) (v : Slot) (e : Value) (g : Busy w r) (al : a < 128) (room₁ : r .used + n ≤ 1024) (sl : s + n ≤ 728) (is : entryIn v ≡ val e) where
-  module _ (w′ : List ℕ) (p : slots w′ ≡ set (copied (slots w) s (728 + r .used) n) a v) where
-    charged-abs : abs w′ (trying r (a + 1) (r .depth) (r .used + n) true) ≡ withCells (val e ∷ stackOf (slots w) a) (valuesAt (slots w) 728 (r .used) ++ valuesAt (slots w) s n) (abs w r)
+module _ {w : List ℕ} {r : Registers} (a n : ℕ) (v : Slot) (e : Value) (new : List Value) (m₁ : List Slot) (g : Busy w r) (al : a < 128) (room₁ : r .used + n ≤ 1024) (is : entryIn v ≡ val e)
+  (long : length m₁ ≡ length (slots w)) (low : Same m₁ (slots w) 0 (728 + r .used)) (high : Same m₁ (slots w) 1752 1814) (made : valuesAt m₁ (728 + r .used) n ≡ new) where
+  module _ (w′ : List ℕ) (p : slots w′ ≡ set m₁ a v) where
+    put-low : (x y : ℕ) → a < x → y ≤ 728 + r .used → Same (slots w′) (slots w) x y
+    put-low x y l f = rw p (same-then (set m₁ a v) m₁ (slots w) x y (same-set m₁ a v x y (inl l)) (λ k s t. low k (omega arith) (omega arith)))
+
+    put-high : (x y : ℕ) → 1752 ≤ x → y ≤ 1814 → Same (slots w′) (slots w) x y
+    put-high x y l f = rw p (same-then (set m₁ a v) m₁ (slots w) x y (same-set m₁ a v x y (inl (omega arith))) (λ k s t. high k (omega arith) (omega arith)))
+
+    charged-abs : abs w′ (trying r (a + 1) (r .depth) (r .used + n) true) ≡ withCells (val e ∷ stackOf (slots w) a) (valuesAt (slots w) 728 (r .used) ++ new) (abs w r)
     charged-abs =
         let m = slots w in
-        let d = 728 + r .used in
-        let m₁ = copied m s d n in
         let m′ = set m₁ a v in
         let room = wide w (g .room) in
-        let l₁ = length-copied m s d n in
         state-path
-        (rw (p, stack-more m₁ a v (omega arith), is) (ap (λ x. val e ∷ x) (stack-same m₁ m a (same-copied m s d n 0 a (inr (omega arith))))))
-        (rw p (contexts-same m′ m (r .depth)
-          (same-then m′ m₁ m 128 _ (same-set m₁ a v 128 _ (inl al)) (same-copied m s d n 128 _ (inr (omega arith))))
-          (same-then m′ m₁ m 1752 _ (same-set m₁ a v 1752 _ (inl (omega arith))) (same-copied m s d n 1752 _ (inl (omega arith))))))
-        (rw p (values-same m′ m 128 50 (same-then m′ m₁ m 128 _ (same-set m₁ a v 128 _ (inl al)) (same-copied m s d n 128 _ (inr (omega arith))))))
+        (rw (p, stack-more m₁ a v (omega arith), is) (ap (λ x. val e ∷ x) (stack-same m₁ m a (λ k s t. low k s (omega arith)))))
+        (contexts-same (slots w′) m (r .depth) (put-low 128 _ al (omega arith)) (put-high 1752 _ (omega arith) (omega arith)))
+        (values-same (slots w′) m 128 50 (put-low 128 _ al (omega arith)))
         (rw p (values-same m′ m₁ 728 (r .used + n) (same-set m₁ a v 728 _ (inl (omega arith))) ∙ values-cut m₁ 728 (r .used) n ∙
-          ap₂ _++_ (values-same m₁ m 728 (r .used) (same-copied m s d n 728 _ (inr (omega arith)))) (values-moved m s d n (omega arith) (inl (omega arith)))))
-
-    charged-aside : aside w′ ≡ aside w
-    charged-aside =
-        let m = slots w in
-        let m₁ = copied m s (728 + r .used) n in
-        aside-same w′ w (rw p (same-then (set m₁ a v) m₁ m 1764 1814 (same-set m₁ a v 1764 1814 (inl (omega arith))) (same-copied m s (728 + r .used) n 1764 1814 (inl (omega arith)))))
+          ap₂ _++_ (values-same m₁ m 728 (r .used) (λ k s t. low k (omega arith) t)) made))
 
     charged-room : 48000 ≤ length w′
-    charged-room =
-        let room = wide w (g .room) in
-        let big : 2400 ≤ length (set (copied (slots w) s (728 + r .used) n) a v) = rw (length-set, length-copied) room in
-        room-of w′ (set (copied (slots w) s (728 + r .used) n) a v) p big
+    charged-room = room-of w′ (set m₁ a v) p (rw (length-set, long) (wide w (g .room)))
 
-    charged-fits : limited (withCells (val e ∷ stackOf (slots w) a) (valuesAt (slots w) 728 (r .used) ++ valuesAt (slots w) s n) (abs w r)) ≡ some (abs w′ (trying r (a + 1) (r .depth) (r .used + n) true))
-    charged-fits = rw (← charged-abs) (fits-abs w′ (trying r (a + 1) (r .depth) (r .used + n) true) (omega arith) (g .depth-fits) room₁)
+    charged-tried : (f : State → Option State) {r′ : Registers} → f (abs w r) ≡ limited (withCells (val e ∷ stackOf (slots w) a) (valuesAt (slots w) 728 (r .used) ++ new) (abs w r))
+        → r′ ≡ trying r (a + 1) (r .depth) (r .used + n) true → Tried f w r w′ r′
+    charged-tried f {r′} meant q =
+        let rm = charged-room in
+        rw q (tried-yes (omega arith) (aside-same w′ w (put-high 1764 1814 (omega arith) (omega arith))) refl refl
+        (meant ∙ (rw (← charged-abs) (fits-abs w′ (trying r (a + 1) (r .depth) (r .used + n) true) (omega arith) (g .depth-fits) room₁))))
+
+-- a charge that fails
+module _ {w : List ℕ} {r : Registers} (f : State → Option State) (s : List Entry) (cells : List Value) (g : Busy w r) (meant : f (abs w r) ≡ limited (withCells s cells (abs w r))) where
+  charge-full : {r′ : Registers} → 128 < length s → r′ ≡ failed r → Tried f w r w r′
+  unfolding limited fits
+  charge-full {r′} h q = tried-no g (meant ∙ (rw (lt-leb (length s) 128 h))) q
+
+  charge-over : {r′ : Registers} → length s ≤ 128 → 1024 < length cells → r′ ≡ failed r → Tried f w r w r′
+  unfolding limited fits
+  charge-over {r′} l h q = tried-no g (meant ∙ (rw (le-leb (length s) 128 l, length-contexts, le-leb (r .depth) 12 (g .depth-fits), lt-leb (length cells) 1024 h))) q
+
+cells-long : (w : List ℕ) (u b n : ℕ) → length (valuesAt (slots w) 728 u ++ valuesAt (slots w) b n) ≡ u + n
+cells-long w u b n = rw (length-append, length-values (slots w) 728 u, length-values (slots w) b n)
 
 -- ---- MAKEVEC
 
@@ -126,26 +147,24 @@ module _ {w : List ℕ} {r : Registers} (lower n : ℕ) (g : Busy w r) where
           rw (← eb, there, length-values, over-drop (stackOf (slots w) (r .height)) n en, stack-dropped (slots w) n (r .height) l, charged (slots w) n (r .height) l en)
 
       pub build-full : {r′ : Registers} → 128 + n ≤ r .height → r′ ≡ failed r → Tried (build lower n) w r w r′
-      unfolding limited fits
-      build-full {r′} f q = tried-no g (build-is ∙ (rw (length-stack, lt-leb (suc (r .height - n)) 128 (omega arith)))) q
+      build-full {r′} f q = charge-full (build lower n) _ _ g build-is (omega (arith, length-stack (slots w) (r .height - n))) q
 
       module _ (st : r .height < 128 + n) where
         pub build-over : {r′ : Registers} → 1024 < r .used + n → r′ ≡ failed r → Tried (build lower n) w r w r′
-        unfolding limited fits
-        build-over {r′} f q =
-            let len : length (valuesAt (slots w) 728 (r .used) ++ valuesAt (slots w) (r .height - n) n) ≡ r .used + n = rw (length-append, length-values (slots w) 728 (r .used), length-values (slots w) (r .height - n) n) in
-            tried-no g (build-is ∙ (rw (length-stack, le-leb (suc (r .height - n)) 128 (omega arith), length-contexts, le-leb (r .depth) 12 (g .depth-fits), len, lt-leb (r .used + n) 1024 f))) q
+        build-over {r′} f q = charge-over (build lower n) _ _ g build-is (omega (arith, length-stack (slots w) (r .height - n))) (omega (arith, cells-long w (r .used) (r .height - n) n)) q
 
         pub build-yes : {w′ : List ℕ} {r′ : Registers} (w₁ : List ℕ) (f c : ℕ) → r .used + n ≤ 1024 → f ≡ r .used → c ≡ n → slots w₁ ≡ copied (slots w) (r .height - n) (728 + r .used) n → slots w′ ≡ set (slots w₁) (r .height - n) (mk 3 f lower c 0)
             → r′ ≡ trying r (r .height - n + 1) (r .depth) (r .used + n) true → Tried (build lower n) w r w′ r′
         build-yes {w′} {r′} w₁ f c u ef ec p₁ p q =
+            let m = slots w in
             let a = r .height - n in
             let l = few n b g eb there in
+            let room = wide w (g .room) in
             let v = mk 3 (r .used) lower n 0 in
-            let p′ : slots w′ ≡ set (copied (slots w) a (728 + r .used) n) a v = rw (ef, ec, p₁) at p in
-            let rm = charged-room {r = r} a a n v (Vector (r .used) lower n) g (omega arith) u (omega arith) (vector-entry _ _ _) w′ p′ in
-            rw q (tried-yes (omega arith) (charged-aside {r = r} a a n v (Vector (r .used) lower n) g (omega arith) u (omega arith) (vector-entry _ _ _) w′ p′) refl refl
-            (build-is ∙ charged-fits a a n v (Vector (r .used) lower n) g (omega arith) u (omega arith) (vector-entry _ _ _) w′ p′))
+            let m₁ = copied m a (728 + r .used) n in
+            charged-tried a n v (Vector (r .used) lower n) _ m₁ g (omega arith) u (vector-entry _ _ _) (length-copied m a (728 + r .used) n)
+            (same-copied m a (728 + r .used) n 0 _ (inr (omega arith))) (same-copied m a (728 + r .used) n 1752 1814 (inl (omega arith)))
+            (values-moved m a (728 + r .used) n (omega arith) (inl (omega arith))) w′ (rw (ef, ec, p₁) at p) (build lower n) build-is q
 
 -- ---- MAKESIMPLECO
 
@@ -159,23 +178,112 @@ module _ {w : List ℕ} {r : Registers} (s l : ℕ) (g : Busy w r) where
   compose-is c got = rw (length-values, contexts-at (slots w) (r .depth) c (g .runs) got, over-above (stackOf (slots w) (r .height)))
 
   pub compose-full : {r′ : Registers} → 128 ≤ r .height → r′ ≡ failed r → Tried (compose s l) w r w r′
-  unfolding limited fits
-  compose-full {r′} f q = tried-no g (compose-is _ refl ∙ (rw (length-stack, lt-leb (suc (r .height)) 128 (omega arith)))) q
+  compose-full {r′} f q = charge-full (compose s l) _ _ g (compose-is _ refl) (omega (arith, length-stack (slots w) (r .height))) q
 
   module _ (st : r .height < 128) where
     pub compose-over : {r′ : Registers} → 1024 < r .used + 50 → r′ ≡ failed r → Tried (compose s l) w r w r′
-    unfolding limited fits
-    compose-over {r′} f q =
-        let len : length (valuesAt (slots w) 728 (r .used) ++ valuesAt (slots w) (frameAt (r .depth - 1)) 50) ≡ r .used + 50 = rw (length-append, length-values (slots w) 728 (r .used), length-values (slots w) (frameAt (r .depth - 1)) 50) in
-        tried-no g (compose-is _ refl ∙ (rw (length-stack, le-leb (suc (r .height)) 128 (omega arith), length-contexts, le-leb (r .depth) 12 (g .depth-fits), len, lt-leb (r .used + 50) 1024 f))) q
+    compose-over {r′} f q = charge-over (compose s l) _ _ g (compose-is _ refl) (omega (arith, length-stack (slots w) (r .height))) (omega (arith, cells-long w (r .used) (frameAt (r .depth - 1)) 50)) q
 
     pub compose-yes : {w′ : List ℕ} {r′ : Registers} (w₁ : List ℕ) (f : ℕ) (c : Slot) → r .used + 50 ≤ 1024 → c ≡ getD (slots w) (1752 + (r .depth - 1)) nil → slots w₁ ≡ copied (slots w) (128 + 50 * (r .depth - 1)) (728 + r .used) 50 → f ≡ r .used → slots w′ ≡ set (slots w₁) (r .height) (mk 4 (c .a) s l f)
         → r′ ≡ trying r (r .height + 1) (r .depth) (r .used + 50) true → Tried (compose s l) w r w′ r′
     compose-yes {w′} {r′} w₁ f c u got p₁ ef p q =
+        let m = slots w in
         let a = frameAt (r .depth - 1) in
-        let o = c .a in
-        let v = mk 4 o s l (r .used) in
-        let p′ : slots w′ ≡ set (copied (slots w) a (728 + r .used) 50) (r .height) v = rw (ef, p₁) at p in
-        let rm = charged-room {r = r} (r .height) a 50 v (Operator o s l (r .used)) g st u (omega arith) (operator-entry _ _ _ _) w′ p′ in
-        rw q (tried-yes (omega arith) (charged-aside {r = r} (r .height) a 50 v (Operator o s l (r .used)) g st u (omega arith) (operator-entry _ _ _ _) w′ p′) refl refl
-        (compose-is c got ∙ charged-fits (r .height) a 50 v (Operator o s l (r .used)) g st u (omega arith) (operator-entry _ _ _ _) w′ p′))
+        let room = wide w (g .room) in
+        let m₁ = copied m a (728 + r .used) 50 in
+        charged-tried (r .height) 50 (mk 4 (c .a) s l (r .used)) (Operator (c .a) s l (r .used)) _ m₁ g st u (operator-entry _ _ _ _) (length-copied m a (728 + r .used) 50)
+        (same-copied m a (728 + r .used) 50 0 _ (inr (omega arith))) (same-copied m a (728 + r .used) 50 1752 1814 (inl (omega arith)))
+        (values-moved m a (728 + r .used) 50 (omega arith) (inl (omega arith))) w′ (rw (ef, p₁) at p) (compose s l) (compose-is c got) q
+
+-- ---- a string
+
+sets-out : (vs m : List Slot) (k i : ℕ) → (i < k) ⊎ (k + length vs ≤ i) → getD (sets m k vs) i nil ≡ getD m i nil
+sets-out [] m k i o = refl
+sets-out (v ∷ vs) m k i (inl l) = sets-out vs (set m k v) (suc k) i (inl (omega arith)) ∙ getD-set-other m k i v nil (λ e. omega arith)
+sets-out (v ∷ vs) m k i (inr l) = sets-out vs (set m k v) (suc k) i (inr (omega arith)) ∙ getD-set-other m k i v nil (λ e. omega arith)
+
+sets-values : (vs m : List Slot) (k : ℕ) → k + length vs ≤ length m → valuesAt (sets m k vs) k (length vs) ≡ map valueIn vs
+unfolding valuesAt asc
+sets-values [] m k h = refl
+sets-values (v ∷ vs) m k h =
+    ap₂ _∷_ (ap valueIn (sets-out vs (set m k v) (suc k) k (inl (omega arith)) ∙ getD-set-same m k v nil (omega arith)))
+    (sets-values vs (set m k v) (suc k) (rw length-set (omega arith)))
+
+pub letters-long : (d : List ℕ) → length (letterSlots d) ≡ length d
+unfolding letterSlots
+letters-long d = length-map d (λ (b : ℕ). mk 1 b 1 0 0)
+
+letters-are : (d : List ℕ) → Bytes d → map valueIn (letterSlots d) ≡ numbers d
+unfolding letterSlots numbers valueIn
+letters-are [] f = refl
+letters-are (b ∷ d) f = ap₂ _∷_ (ap (λ z. Number (record { num = z; den = 1 })) (toZ-pos w32 {n = b} (omega (arith, f 0)))) (letters-are d (λ i. f (suc i)))
+
+numbers-long : (d : List ℕ) → length (numbers d) ≡ length d
+unfolding numbers
+numbers-long [] = refl
+numbers-long (b ∷ d) = ap suc (numbers-long d)
+
+pub letters-show : Shows letterSlots
+unfolding letterSlots
+letters-show = record { none = refl; all = λ d e. map-append (λ (b : ℕ). mk 1 b 1 0 0) d e; each = letters-long }
+
+pub no-letters : (d : List ℕ) (m : List Slot) (k : ℕ) → length d ≤ 0 → m ≡ sets m k (letterSlots d)
+unfolding letterSlots
+no-letters [] m k h = refl
+no-letters (b ∷ d) m k h = absurd (omega arith)
+
+-- so many data that fit are whole
+fits-cells : (J : Joined) (n o : ℕ) → 0 < length (dataOf J) → o + length (dataOf J) ≤ n → FitsText n o J
+unfolding dataOf
+fits-cells (whole d next) n o h l = l
+fits-cells (cutAt place) n o h l = absurd (omega arith)
+
+pub letters-fit : (w : List ℕ) (k n : ℕ) (J : Joined) → n ≡ length (dataOf J) → (n ≡ 0 → ⊥) → 20 * (k + n) ≤ length w → FitsText (length (slots w)) k J
+letters-fit w k n J e z h = fits-cells J (length (slots w)) k (omega arith) (omega (arith, roomy (k + n) w h))
+
+pub sets-long : (m m′ : List Slot) (k : ℕ) (vs : List Slot) → m′ ≡ sets m k vs → length m′ ≡ length m
+sets-long m m′ k vs e = rw e (length-sets m k vs)
+
+-- the byte at f is stored next
+pub letter-next : (m : List Slot) (k : ℕ) (x : List ℕ) (f t : ℕ) → f < t → t ≤ length x → sets m k (letterSlots (slice f t x)) ≡ sets (set m k (mk 1 (getD x f 0) 1 0 0)) (suc k) (letterSlots (slice (suc f) t x))
+unfolding letterSlots
+letter-next m k x f t h l = ap (λ (d : List ℕ). sets m k (map (λ (b : ℕ). mk 1 b 1 0 0) d)) (slice-cons f t x 0 h l)
+
+module _ {w : List ℕ} {r : Registers} (b : List ℕ) (at n : ℕ) (g : Busy w r) (en : n ≡ length (dataOf (joinedAt b at))) where
+  spelt : List Value
+  spelt = numbers (dataOf (joinedAt b at))
+
+  spell-is : spell b at (abs w r) ≡ limited (withCells (val (Vector (r .used) 0 n) ∷ stackOf (slots w) (r .height)) (valuesAt (slots w) 728 (r .used) ++ spelt) (abs w r))
+  unfolding spell charge lettersAt over spelt
+  spell-is = rw (length-values, numbers-long, ← en, over-above (stackOf (slots w) (r .height)))
+
+  pub spell-full : {r′ : Registers} → 128 ≤ r .height → r′ ≡ failed r → Tried (spell b at) w r w r′
+  spell-full {r′} f q = charge-full (spell b at) _ _ g spell-is (omega (arith, length-stack (slots w) (r .height))) q
+
+  module _ (st : r .height < 128) where
+    pub spell-over : {r′ : Registers} → 1024 - r .used < n → r′ ≡ failed r → Tried (spell b at) w r w r′
+    unfolding spelt
+    spell-over {r′} f q =
+        let l : length (valuesAt (slots w) 728 (r .used) ++ numbers (dataOf (joinedAt b at))) ≡ r .used + n = rw (length-append, length-values (slots w) 728 (r .used), numbers-long) (ap (λ k. r .used + k) (sym en)) in
+        charge-over (spell b at) _ _ g spell-is (omega (arith, length-stack (slots w) (r .height))) (omega arith) q
+
+    module _ (ok : n ≤ 1024 - r .used) (bytes : Bytes b) where
+      pub spell-yes : {w′ : List ℕ} {r′ : Registers} (w₁ : List ℕ) (f c : ℕ) → slots w₁ ≡ sets (slots w) (728 + r .used) (letterSlots (dataOf (joinedAt b at))) → f ≡ r .used → c ≡ n → slots w′ ≡ set (slots w₁) (r .height) (mk 3 f 0 c 0)
+          → r′ ≡ trying r (r .height + 1) (r .depth) (r .used + n) true → Tried (spell b at) w r w′ r′
+      unfolding spelt
+      spell-yes {w′} {r′} w₁ f c p₁ ef ec p q =
+          let m = slots w in
+          let d = dataOf (joinedAt b at) in
+          let k = 728 + r .used in
+          let vs = letterSlots d in
+          let room = wide w (g .room) in
+          let l : length vs ≡ n = letters-long d ∙ sym en in
+          let made : valuesAt (sets m k vs) k n ≡ numbers d =
+              ap (valuesAt (sets m k vs) k) (sym l) ∙ sets-values vs m k (omega arith) ∙ letters-are d (data-bytes b at bytes) in
+          charged-tried (r .height) n (mk 3 (r .used) 0 n 0) (Vector (r .used) 0 n) _ (sets m k vs) g st (omega arith) (vector-entry _ _ _) (length-sets m k vs)
+          (λ i s t. sets-out vs m k i (inl t)) (λ i s t. sets-out vs m k i (inr (omega arith))) made w′ (rw (ef, ec, p₁) at p) (spell b at) spell-is q
+
+      -- no data: nothing is put
+      pub spell-none : {w′ : List ℕ} {r′ : Registers} (f c : ℕ) → n ≤ 0 → f ≡ r .used → c ≡ n → slots w′ ≡ set (slots w) (r .height) (mk 3 f 0 c 0)
+          → r′ ≡ trying r (r .height + 1) (r .depth) (r .used + n) true → Tried (spell b at) w r w′ r′
+      spell-none {w′} {r′} f c z ef ec p q = spell-yes w f c (no-letters (dataOf (joinedAt b at)) (slots w) (728 + r .used) (omega arith)) ef ec p q

@@ -19,7 +19,7 @@ use Rattle.state.proofs.Parts.{contexts-same, contexts-top, length-valu
 
 -- ---- lists
 
-map-append : {A B : Type 0} (f : A → B) (l m : List A) → map f (l ++ m) ≡ map f l ++ map f m
+pub map-append : {A B : Type 0} (f : A → B) (l m : List A) → map f (l ++ m) ≡ map f l ++ map f m
 map-append f [] m = refl
 map-append f (a ∷ l) m = ap (λ x. f a ∷ x) (map-append f l m)
 

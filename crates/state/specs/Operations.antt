@@ -2,17 +2,19 @@
 use Prim.Native.Nat.{ℕ, zero, suc, _+_}
 use mathlib.Core.Path.{_≡_}
 use mathlib.Core.Bool.{Bool, false}
-use mathlib.Core.List.{List, [], _∷_}
+use mathlib.Core.List.{List, [], _∷_, map}
 use mathlib.Core.Option.{Option}
-use lib.ListN.{getD, set, take, drop}
+use lib.ListN.{length, getD, set, take, drop}
 use Rattle.table.specs.declared.Slot.{Slot}
 use Rattle.table.specs.Slots.{mk, slots, copied}
 use Rattle.machine.specs.declared.Value.{Value}
+use Rattle.machine.specs.declared.Value.the-variants.{Vector}
 use Rattle.machine.specs.Limits.{frameSize}
 use Rattle.machine.specs.State.{val, Context, State, running}
 use Rattle.machine.specs.State as state
+use Rattle.machine.specs.Literal.{lettersAt}
 use Rattle.machine.specs.Contexts.{settle}
-use Rattle.machine.specs.Engine.{withStack, push, enter}
+use Rattle.machine.specs.Engine.{withStack, push, charge, enter}
 use Rattle.state.specs.declared.Registers.{Registers}
 use Rattle.state.specs.Layout.{valuesAt, frameAt, aside, abs, Good}
 
@@ -31,6 +33,14 @@ fetch j s = push (getD (running (s .contexts) .frame) j state.zero) s
 -- a cell
 unfoldable pub element : ℕ → State → Option State
 element k s = push (getD (s .cells) k state.zero) s
+
+-- bytes as numbers, one slot each
+unfoldable pub letterSlots : List ℕ → List Slot
+letterSlots d = map (λ (b : ℕ). mk 1 b 1 0 0) d
+
+-- the string token at a place of the bytes b becomes a vector with lower bound 0
+unfoldable pub spell : List ℕ → ℕ → State → Option State
+spell b start s = let l = lettersAt b start in charge l 0 (Vector (length (s .cells)) 0 (length l)) s
 
 -- a body entered from `at` to `end`
 abbrev pub entered : ℕ → ℕ → ℕ → Bool → List Value → State → Context

@@ -3,6 +3,7 @@
 pub mod bodies; // a step begun, bodies entered, a body of the engine's opened
 pub mod cells; // vectors made and read, the frame that an operator keeps
 pub mod frames; // the running frame
+pub mod letters; // a string becomes a vector
 pub mod marks; // MARK, UNMARK, COUNT
 pub mod recovery; // mark recovery, the end of bodies
 pub mod stack; // the values above the topmost mark

@@ -5,7 +5,8 @@ ghost use lib.ListN.{length};
 ghost use lib.Seq.{sets, slice};
 ghost use Rattle.table.specs.Words.{wordAt, wordBytes};
 
-fn wide(x: u8) -> u32
+// A byte as a word.
+pub fn wide(x: u8) -> u32
     ensures { λ r. ⌜ (r ≡ x) × (r < 256) ⌝ }
 {
     x as u32
