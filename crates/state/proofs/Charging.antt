@@ -29,6 +29,7 @@ use Rattle.tokens.specs.Joined.{Joined, whole, cutAt, dataOf, joinedAt, FitsTex
 use Rattle.tokens.proofs.Copying.{Shows, Bytes, data-bytes}
 use Rattle.machine.specs.Literal.{numbers, lettersAt}
 use Rattle.state.specs.Operations.{letterSlots, spell}
+use Rattle.state.proofs.Coding.{vector-slot}
 use Rattle.state.proofs.Cutting.{map-append}
 use Rattle.state.proofs.Parts.{wide, room-of, stack-same, values-same, contexts-same, aside-same, length-stack, length-values, length-contexts, stack-more, contexts-at}
 use Rattle.state.proofs.Ending.{state-path}
@@ -124,9 +125,9 @@ cells-long w u b n = rw (length-append, length-values (slots w) 728 u, length-va
 
 -- ---- MAKEVEC
 
-vector-entry : (f l n : ℕ) → entryIn (mk 3 f l n 0) ≡ val (Vector f l n)
-unfolding entryIn valueIn
-vector-entry f l n = refl
+vector-entry : (f l n : ℕ) → f < 2147483648 → l < 2147483648 → n < 2147483648 → entryIn (mk 3 f l n 0) ≡ val (Vector f l n)
+unfolding entryIn
+vector-entry f l n h i k = ap val (vector-slot f l n h i k)
 
 module _ {w : List ℕ} {r : Registers} (lower n : ℕ) (g : Busy w r) where
   pub build-short : {r′ : Registers} → r .height < n → r′ ≡ failed r → Tried (build lower n) w r w r′
@@ -153,16 +154,16 @@ module _ {w : List ℕ} {r : Registers} (lower n : ℕ) (g : Busy w r) where
         pub build-over : {r′ : Registers} → 1024 < r .used + n → r′ ≡ failed r → Tried (build lower n) w r w r′
         build-over {r′} f q = charge-over (build lower n) _ _ g build-is (omega (arith, length-stack (slots w) (r .height - n))) (omega (arith, cells-long w (r .used) (r .height - n) n)) q
 
-        pub build-yes : {w′ : List ℕ} {r′ : Registers} (w₁ : List ℕ) (f c : ℕ) → r .used + n ≤ 1024 → f ≡ r .used → c ≡ n → slots w₁ ≡ copied (slots w) (r .height - n) (728 + r .used) n → slots w′ ≡ set (slots w₁) (r .height - n) (mk 3 f lower c 0)
+        pub build-yes : {w′ : List ℕ} {r′ : Registers} (w₁ : List ℕ) (f c : ℕ) → lower < 2147483648 → r .used + n ≤ 1024 → f ≡ r .used → c ≡ n → slots w₁ ≡ copied (slots w) (r .height - n) (728 + r .used) n → slots w′ ≡ set (slots w₁) (r .height - n) (mk 3 f lower c 0)
             → r′ ≡ trying r (r .height - n + 1) (r .depth) (r .used + n) true → Tried (build lower n) w r w′ r′
-        build-yes {w′} {r′} w₁ f c u ef ec p₁ p q =
+        build-yes {w′} {r′} w₁ f c small u ef ec p₁ p q =
             let m = slots w in
             let a = r .height - n in
             let l = few n b g eb there in
             let room = wide w (g .room) in
             let v = mk 3 (r .used) lower n 0 in
             let m₁ = copied m a (728 + r .used) n in
-            charged-tried a n v (Vector (r .used) lower n) _ m₁ g (omega arith) u (vector-entry _ _ _) (length-copied m a (728 + r .used) n)
+            charged-tried a n v (Vector (r .used) lower n) _ m₁ g (omega arith) u (vector-entry (r .used) lower n (omega arith) small (omega arith)) (length-copied m a (728 + r .used) n)
             (same-copied m a (728 + r .used) n 0 _ (inr (omega arith))) (same-copied m a (728 + r .used) n 1752 1814 (inl (omega arith)))
             (values-moved m a (728 + r .used) n (omega arith) (inl (omega arith))) w′ (rw (ef, ec, p₁) at p) (build lower n) build-is q
 
@@ -280,7 +281,7 @@ module _ {w : List ℕ} {r : Registers} (b : List ℕ) (at n : ℕ) (g : Busy w 
           let l : length vs ≡ n = letters-long d ∙ sym en in
           let made : valuesAt (sets m k vs) k n ≡ numbers d =
               ap (valuesAt (sets m k vs) k) (sym l) ∙ sets-values vs m k (omega arith) ∙ letters-are d (data-bytes b at bytes) in
-          charged-tried (r .height) n (mk 3 (r .used) 0 n 0) (Vector (r .used) 0 n) _ (sets m k vs) g st (omega arith) (vector-entry _ _ _) (length-sets m k vs)
+          charged-tried (r .height) n (mk 3 (r .used) 0 n 0) (Vector (r .used) 0 n) _ (sets m k vs) g st (omega arith) (vector-entry (r .used) 0 n (omega arith) (omega arith) (omega arith)) (length-sets m k vs)
           (λ i s t. sets-out vs m k i (inl t)) (λ i s t. sets-out vs m k i (inr (omega arith))) made w′ (rw (ef, ec, p₁) at p) (spell b at) spell-is q
 
       -- no data: nothing is put

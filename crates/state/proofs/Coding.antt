@@ -1,5 +1,5 @@
 -- A value as a slot, and back. Assumes nothing.
-use mathlib.Core.Path.{_≡_, ap, sym, _∙_}
+use mathlib.Core.Path.{_≡_, refl, ap, sym, _∙_}
 use Prim.Native.Nat.{ℕ, _-_, _<_}
 use native.Mathlib.Omega.{arith}
 use borrow.Author.Tests.{ne-eqb}
@@ -9,12 +9,13 @@ use mir.Val.{toZ}
 use Rattle.table.specs.declared.Slot.{Slot}
 use Rattle.table.specs.Slots.{mk}
 use Rattle.numbers.specs.declared.Number as num
-use Rattle.machine.specs.declared.Value.{Value}
 use Rattle.machine.specs.declared.Value.the-variants.{Number, Identifier, Vector, Operator}
 use Rattle.machine.specs.Contexts.{from}
 use Rattle.machine.specs.Engine.{fits}
 use Rattle.state.specs.Layout.{valueIn}
 use lib.Signed.{mag}
+use native.Mathlib.Nat.{mod-eq-of-lt}
+use Rattle.state.specs.Layout.{half}
 use mir.Val.{ofZ}
 use mir.Facts.{toZ-ofZ, sfits-toZ}
 
@@ -24,7 +25,7 @@ pub from-identifier : (v : Slot) → v .kind ≡ 2 → Identifier (v .a) (v .b) 
 unfolding valueIn
 from-identifier v e = rw e
 
-pub from-vector : (v : Slot) → v .kind ≡ 3 → Vector (v .a) (v .b) (v .c) ≡ valueIn v
+pub from-vector : (v : Slot) → v .kind ≡ 3 → Vector (half (v .a)) (half (v .b)) (half (v .c)) ≡ valueIn v
 unfolding valueIn
 from-vector v e = rw e
 
@@ -46,20 +47,16 @@ not-five n h e = omega arith
 pub zero-plain : (z : Slot) → z ≡ mk 1 0 1 0 0 → z .kind ≡ 5 → ⊥
 zero-plain z e h = not-five 1 (omega arith) (sym (ap (λ (v : Slot). v .kind) e) ∙ h)
 
-pub number-back : {v : Value} (a : num.Number) (x : ℕ) → v ≡ Number a → mag (a .num) < 2147483648 → x ≡ ofZ w32 (toZ w32 (ofZ w32 (a .num))) → (valueIn (mk 1 x (a .den) 0 0) ≡ v) × (_≡_ {A = ℕ} 1 5 → ⊥)
+pub number-back : (a : num.Number) (x : ℕ) → mag (a .num) < 2147483648 → x ≡ ofZ w32 (toZ w32 (ofZ w32 (a .num))) → (valueIn (mk 1 x (a .den) 0 0) ≡ Number a) × (_≡_ {A = ℕ} 1 5 → ⊥)
 unfolding valueIn
-number-back a x e f g =
+number-back a x f g =
     let back : toZ w32 (ofZ w32 (a .num)) ≡ a .num = toZ-ofZ (record { sfits = f }) in
-    (rw (e, g, back, back), not-five 1 (omega arith))
+    (rw (g, back, back), not-five 1 (omega arith))
 
-pub identifier-back : {v : Value} (o s l : ℕ) → v ≡ Identifier o s l → (valueIn (mk 2 o s l 0) ≡ v) × (_≡_ {A = ℕ} 2 5 → ⊥)
+pub name-slot : (o s l : ℕ) → (valueIn (mk 2 o s l 0) ≡ Identifier o s l) × (_≡_ {A = ℕ} 2 5 → ⊥)
 unfolding valueIn
-identifier-back o s l e = (rw e, not-five 2 (omega arith))
+name-slot o s l = (refl, not-five 2 (omega arith))
 
-pub vector-back : {v : Value} (f l n : ℕ) → v ≡ Vector f l n → (valueIn (mk 3 f l n 0) ≡ v) × (_≡_ {A = ℕ} 3 5 → ⊥)
+pub vector-slot : (f l n : ℕ) → f < 2147483648 → l < 2147483648 → n < 2147483648 → valueIn (mk 3 f l n 0) ≡ Vector f l n
 unfolding valueIn
-vector-back f l n e = (rw e, not-five 3 (omega arith))
-
-pub operator-back : {v : Value} (o s l f : ℕ) → v ≡ Operator o s l f → (valueIn (mk 4 o s l f) ≡ v) × (_≡_ {A = ℕ} 4 5 → ⊥)
-unfolding valueIn
-operator-back o s l f e = (rw e, not-five 4 (omega arith))
+vector-slot f l n h i k = rw (mod-eq-of-lt h, mod-eq-of-lt i, mod-eq-of-lt k)

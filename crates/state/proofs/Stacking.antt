@@ -13,17 +13,18 @@ use Rattle.table.specs.declared.Slot.{Slot}
 use Rattle.table.specs.Slots.{nil, mk, slots, desc, copied}
 use Rattle.table.proofs.Moves.{Same, same-set, same-copied, same-then, length-copied, rolled}
 use Rattle.machine.specs.declared.Value.{Value}
-use Rattle.machine.specs.State.{Entry, val, mark}
+use Rattle.machine.specs.State.{Entry, val, mark, running}
 use Rattle.machine.specs.Contexts.{above, beneath, over}
 use Rattle.machine.specs.Engine.{limited, provided, withStack, values, push, repeat, turn}
 use Rattle.state.specs.declared.Registers.{Registers}
-use Rattle.state.specs.Layout.{valueIn, entryIn, stackOf, abs, Busy, Tried}
+use Rattle.state.specs.Layout.{valueIn, entryIn, stackOf, contextIn, contextsOf, abs, Busy, Tried}
 use lib.Dec.{leb·suc-suc}
 use Rattle.state.specs.Layout.{Topmost}
-use Rattle.state.specs.Operations.{pushTwo}
-use Rattle.state.proofs.Parts.{wide, room-of, stack-same, stack-at, stack-more, length-stack}
+use Rattle.state.specs.Operations.{pushTwo, utter}
+use Rattle.state.proofs.Coding.{name-slot}
+use Rattle.state.proofs.Parts.{wide, room-of, stack-same, contexts-at, stack-at, stack-more, length-stack}
 use Rattle.state.proofs.Cutting.{over-take, over-above, over-drop, entriesAt, length-entries, stack-taken, stack-dropped, stack-joined, entries-moved, entries-drop, entries-rolled}
-use Rattle.state.proofs.Trying.{trying, failed, tried-no, tried-yes, aside-above, stack-only, fits-stack, full-stack}
+use Rattle.state.proofs.Trying.{trying, failed, tried-no, tried-yes, tried-as, aside-above, stack-only, fits-stack, full-stack}
 use Rattle.machine.specs.State as state
 
 -- ---- how many there are
@@ -126,6 +127,14 @@ push-no {w} {r} {r′} v g h q = tried-no g (full-stack w r (val (valueIn v) ∷
 
 pub push-as : {w w′ : List ℕ} {r r′ : Registers} (v : Value) (u : Slot) → valueIn u ≡ v → Tried (push (valueIn u)) w r w′ r′ → Tried (push v) w r w′ r′
 push-as v u e t = rw (← e) t
+
+running-origin : (w : List ℕ) (r : Registers) (c : Slot) → Busy w r → c ≡ getD (slots w) (1752 + (r .depth - 1)) nil → running (contextsOf (slots w) (r .depth)) .origin ≡ c .a
+unfolding running contextIn
+running-origin w r c g e = rw (contexts-at (slots w) (r .depth) c (g .runs) e)
+
+pub name-push : {w w′ : List ℕ} {r r′ : Registers} (start len : ℕ) (c : Slot) → Busy w r → c ≡ getD (slots w) (1752 + (r .depth - 1)) nil → Tried (push (valueIn (mk 2 (c .a) start len 0))) w r w′ r′ → Tried (utter start len) w r w′ r′
+unfolding utter
+name-push {w} {w′} {r} {r′} start len c g got t = tried-as (rw (running-origin w r c g got, name-slot (c .a) start len .0)) t
 
 module _ {w : List ℕ} {r : Registers} (v u : Value) (g : Busy w r) where
   pub two-no : {r′ : Registers} → 127 ≤ r .height → r′ ≡ failed r → Tried (pushTwo v u) w r w r′
@@ -261,7 +270,7 @@ module _ {w : List ℕ} {r : Registers} (n : ℕ) (b : Bool) (g : Busy w r) (eb 
 
       turned-long : length turned ≡ r .height
       unfolding turned
-      turned-long = let l = few there in let jn = j-few in rw (length-append, length-append, length-entries, length-entries, length-stack) (omega arith)
+      turned-long = let l = few there in let jn = j-few in rw (length-append, length-append, length-entries (slots w) (r .height - n) (n - j), length-entries (slots w) (r .height - j) j, length-stack) (omega arith)
 
       pub turn-yes : {w′ : List ℕ} {r′ : Registers} → slots w′ ≡ rolled (slots w) (r .height - n) n j 1814 → r′ ≡ trying r (r .height) (r .depth) (r .used) true → Tried (turn n first) w r w′ r′
       unfolding turned

@@ -6,7 +6,7 @@ use mathlib.Core.Path.{_≡_}
 use mathlib.Core.Bool.{Bool, true, false, cond}
 use mathlib.Core.List.{List, [], _∷_, map}
 use mathlib.Core.Option.{Option, none, some}
-use Prim.Native.Nat.{ℕ, zero, suc, _+_, _*_, _≤_, _<_}
+use Prim.Native.Nat.{ℕ, zero, suc, _+_, _*_, _%_, _≤_, _<_}
 use lib.Dec.{eqb}
 use lib.ListN.{length, getD, set, take, drop}
 use mir.Syntax.{w32}
@@ -25,10 +25,14 @@ use Rattle.state.specs.declared.Tops.{Tops}
 
 -- ---- a value in a slot: its kind, then its words (01: "A value is five signed words")
 
+-- a vector's words are taken below 2^31, so that sums and numbers made of them fit a word, whatever the table holds
+abbrev pub half : ℕ → ℕ
+half n = n % 2147483648
+
 unfoldable pub valueIn : Slot → Value
 valueIn v =
     cond (eqb (v .kind) 2) (Identifier (v .a) (v .b) (v .c))
-    (cond (eqb (v .kind) 3) (Vector (v .a) (v .b) (v .c))
+    (cond (eqb (v .kind) 3) (Vector (half (v .a)) (half (v .b)) (half (v .c)))
     (cond (eqb (v .kind) 4) (Operator (v .a) (v .b) (v .c) (v .d))
     (Number (record { num = toZ w32 (v .a); den = v .b }))))
 

@@ -8,7 +8,7 @@ use lib.ListN.{length, getD, set, take, drop}
 use Rattle.table.specs.declared.Slot.{Slot}
 use Rattle.table.specs.Slots.{mk, slots, copied}
 use Rattle.machine.specs.declared.Value.{Value}
-use Rattle.machine.specs.declared.Value.the-variants.{Vector}
+use Rattle.machine.specs.declared.Value.the-variants.{Identifier, Vector}
 use Rattle.machine.specs.Limits.{frameSize}
 use Rattle.machine.specs.State.{val, Context, State, running}
 use Rattle.machine.specs.State as state
@@ -21,6 +21,10 @@ use Rattle.state.specs.Layout.{valuesAt, frameAt, aside, abs, Good}
 -- two values, the second on top
 unfoldable pub pushTwo : Value → Value → State → Option State
 pushTwo v u s = push u (withStack (val v ∷ s .stack) s)
+
+-- an identifier of the running body
+unfoldable pub utter : ℕ → ℕ → State → Option State
+utter start len s = push (Identifier (running (s .contexts) .origin) start len) s
 
 -- a mark put under the n slots from a on, by way of the room for entries
 unfoldable pub markPut : List Slot → ℕ → ℕ → ℕ → List Slot

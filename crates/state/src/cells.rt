@@ -22,7 +22,7 @@ pub fn element(w: &mut [u8], r: Registers, k: usize) -> Registers
 
 // MAKEVEC and MAKEVECLU: the topmost n values become cells, and a vector of them takes their place.
 pub fn build(w: &mut [u8], r: Registers, lower: u32, n: usize) -> Registers
-    requires { ⌜ Busy (now w) r ⌝ }
+    requires { ⌜ Busy (now w) r × (lower < 2147483648) ⌝ }
     ensures { λ q. ⌜ Tried (build lower n) (now (w .entry)) r (now (w .exit)) q ⌝ }
 {
     let height = r.height;

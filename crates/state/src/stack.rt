@@ -6,10 +6,11 @@ ghost use lib.Dec.{leb};
 ghost use lib.ListN.{length};
 ghost use Rattle.table.specs.Slots.{slots};
 ghost use Rattle.table.proofs.Moves.{rolled};
+ghost use Rattle.machine.specs.declared.Value.the-variants.{Number};
 ghost use Rattle.machine.specs.Contexts.{above};
 ghost use Rattle.machine.specs.Engine.{push, repeat, turn};
 ghost use Rattle.state.specs.Layout.{valueIn, stackOf, Busy, Tried, Topmost};
-ghost use Rattle.state.specs.Operations.{pushTwo};
+ghost use Rattle.state.specs.Operations.{pushTwo, utter};
 use crate::Registers;
 use crate::Tops;
 use table::Slot;
@@ -82,25 +83,45 @@ pub fn push_slot(w: &mut [u8], r: Registers, v: Slot) -> Registers
     q
 }
 
-pub fn push(w: &mut [u8], r: Registers, v: machine::Value) -> Registers
+pub fn push_number(w: &mut [u8], r: Registers, a: numbers::Number) -> Registers
     requires { ⌜ Busy (now w) r ⌝ }
-    ensures { λ q. ⌜ Tried (push v) (now (w .entry)) r (now (w .exit)) q ⌝ }
+    ensures { λ q. ⌜ Tried (push (Number a)) (now (w .entry)) r (now (w .exit)) q ⌝ }
 {
-    let u = crate::values::slot_of(v);
+    let u = crate::values::number_slot(a);
     push_slot(w, r, u)
 }
 
-// Two values, the second on top.
-pub fn push_two(w: &mut [u8], r: Registers, v: machine::Value, u: machine::Value) -> Registers
+// An identifier of the running body's origin, its token at `start`.
+pub fn push_name(w: &mut [u8], r: Registers, start: u32, len: u32) -> Registers
     requires { ⌜ Busy (now w) r ⌝ }
-    ensures { λ q. ⌜ Tried (pushTwo v u) (now (w .entry)) r (now (w .exit)) q ⌝ }
+    ensures { λ q. ⌜ Tried (utter start len) (now (w .entry)) r (now (w .exit)) q ⌝ }
+{
+    let d = r.depth;
+    let c = table::slots::get(w, 1752 + (d - 1));
+    push_slot(
+        w,
+        r,
+        Slot {
+            kind: 2,
+            a: c.a,
+            b: start,
+            c: len,
+            d: 0,
+        },
+    )
+}
+
+// Two numbers, the second on top.
+pub fn push_two(w: &mut [u8], r: Registers, a: numbers::Number, b: numbers::Number) -> Registers
+    requires { ⌜ Busy (now w) r ⌝ }
+    ensures { λ q. ⌜ Tried (pushTwo (Number a) (Number b)) (now (w .entry)) r (now (w .exit)) q ⌝ }
 {
     let height = r.height;
     if height >= 127 {
         return failed(r);
     }
-    let x = crate::values::slot_of(v);
-    let y = crate::values::slot_of(u);
+    let x = crate::values::number_slot(a);
+    let y = crate::values::number_slot(b);
     table::slots::put(w, height, x);
     table::slots::put(w, height + 1, y);
     let mut q = r;

@@ -2,6 +2,7 @@
 ghost use mathlib.Core.Path.{_≡_};
 ghost use Prim.Native.Nat.{_<_};
 ghost use Rattle.table.specs.Slots.{mk};
+ghost use Rattle.machine.specs.declared.Value.the-variants.{Number};
 ghost use Rattle.state.specs.Layout.{valueIn};
 use table::Slot;
 
@@ -38,9 +39,9 @@ pub fn value_of(v: Slot) -> machine::Value
     }
     if v.kind == 3 {
         return machine::Value::Vector {
-            first: v.a,
-            lower: v.b,
-            count: v.c,
+            first: v.a % 2147483648,
+            lower: v.b % 2147483648,
+            count: v.c % 2147483648,
         };
     }
     if v.kind == 4 {
@@ -57,48 +58,16 @@ pub fn value_of(v: Slot) -> machine::Value
     })
 }
 
-// A slot for a value.
-pub fn slot_of(v: machine::Value) -> Slot
-    ensures { λ r. ⌜ (valueIn r ≡ v) × (r .kind ≡ 5 → ⊥) ⌝ }
+// A slot for a number.
+pub fn number_slot(a: numbers::Number) -> Slot
+    ensures { λ r. ⌜ (valueIn r ≡ Number a) × (r .kind ≡ 5 → ⊥) ⌝ }
 {
-    match v {
-        machine::Value::Number(a) => Slot {
-            kind: 1,
-            a: numbers::words::to_word(a.num),
-            b: a.den,
-            c: 0,
-            d: 0,
-        },
-        machine::Value::Identifier { origin, start, len } => Slot {
-            kind: 2,
-            a: origin,
-            b: start,
-            c: len,
-            d: 0,
-        },
-        machine::Value::Vector {
-            first,
-            lower,
-            count,
-        } => Slot {
-            kind: 3,
-            a: first,
-            b: lower,
-            c: count,
-            d: 0,
-        },
-        machine::Value::Operator {
-            origin,
-            start,
-            len,
-            first,
-        } => Slot {
-            kind: 4,
-            a: origin,
-            b: start,
-            c: len,
-            d: first,
-        },
+    Slot {
+        kind: 1,
+        a: numbers::words::to_word(a.num),
+        b: a.den,
+        c: 0,
+        d: 0,
     }
 }
 

@@ -10,7 +10,7 @@ value-of-spec =
     tie.close
     (tie.spec
     (λ c. from-identifier _ (c .if1 .taken))
-    (λ c. from-vector _ (c .if2 .taken))
+    (λ c. from-vector _ (c .before .before .before .if2 .taken))
     (λ c. from-operator _ (c .if3 .taken))
     (λ c κs. search needs)
     (λ c. from-number (c .before .before .before .before .before .before .before .args .v) (c .before .before .before .before .before .if1 .left) (c .before .before .before .if2 .left) (c .before .if3 .left) (omega arith) (c .of-word .ensures)))
