@@ -38,7 +38,7 @@ fn put_context(w: &mut [u8], id: usize, d: usize, s: usize, origin: u32, at: u32
     ensures { λ _. ⌜ slots (now (w .exit)) ≡ contextPut (slots (now (w .entry))) id d s origin at end owes ⌝ }
 {
     table::slots::copy(w, s, 128 + 50 * d, 50);
-    let i = crate::values::word(id);
+    let i = table::words::word(id);
     table::slots::put(
         w,
         1752 + d,

@@ -40,8 +40,8 @@ pub fn build(w: &mut [u8], r: Registers, lower: u32, n: usize) -> Registers
         }
         let a = height - n;
         table::slots::copy(w, a, 728 + used, n);
-        let first = crate::values::word(used);
-        let count = crate::values::word(n);
+        let first = table::words::word(used);
+        let count = table::words::word(n);
         table::slots::put(
             w,
             a,
@@ -78,7 +78,7 @@ pub fn compose(w: &mut [u8], r: Registers, start: u32, len: u32) -> Registers
     }
     let c = table::slots::get(w, 1752 + (d - 1));
     table::slots::copy(w, 128 + 50 * (d - 1), 728 + used, 50);
-    let first = crate::values::word(used);
+    let first = table::words::word(used);
     table::slots::put(
         w,
         height,

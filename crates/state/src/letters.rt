@@ -95,8 +95,8 @@ pub fn spell(w: &mut [u8], r: Registers, b: &[u8], at: usize) -> Registers
         return crate::stack::failed(r);
     }
     put_letters(w, 728 + used, b, at, n);
-    let first = crate::values::word(used);
-    let count = crate::values::word(n);
+    let first = table::words::word(used);
+    let count = table::words::word(n);
     table::slots::put(
         w,
         height,

@@ -118,7 +118,7 @@ pub fn tally(w: &mut [u8], r: Registers) -> Registers
     if v.a != c.kind {
         return crate::stack::failed(r);
     }
-    let n = crate::values::word(k);
+    let n = table::words::word(k);
     crate::stack::push_slot(
         w,
         r,

@@ -1,6 +1,5 @@
 // A value in a slot, and back: the only place that knows.
 ghost use mathlib.Core.Path.{_≡_};
-ghost use Prim.Native.Nat.{_<_};
 ghost use Rattle.table.specs.Slots.{mk};
 ghost use Rattle.machine.specs.declared.Value.the-variants.{Number};
 ghost use Rattle.state.specs.Layout.{valueIn};
@@ -16,14 +15,6 @@ pub fn zero() -> Slot
         c: 0,
         d: 0,
     }
-}
-
-// A count as a word.
-pub fn word(x: usize) -> u32
-    requires { ⌜ x < 4294967296 ⌝ }
-    ensures { λ r. ⌜ r ≡ x ⌝ }
-{
-    x as u32
 }
 
 // The value in a slot.

@@ -12,6 +12,14 @@ pub fn wide(x: u8) -> u32
     x as u32
 }
 
+// A count as a word.
+pub fn word(x: usize) -> u32
+    requires { ⌜ x < 4294967296 ⌝ }
+    ensures { λ r. ⌜ r ≡ x ⌝ }
+{
+    x as u32
+}
+
 // The word at byte `i`.
 pub fn get_word(b: &[u8], i: usize) -> u32
     requires { ⌜ i + 4 ≤ length (now b) ⌝ }

@@ -1,0 +1,1 @@
+-- The laws, lowest first. Assumes nothing.
