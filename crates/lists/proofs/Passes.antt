@@ -12,7 +12,7 @@ use lib.Seq.{sets}
 use lib.IntN.{ℤ}
 use borrow.Author.Tests.{lt-ltb, le-ltb, le-leb, lt-leb}
 use Rattle.tokens.specs.Format.{header}
-use Rattle.tokens.proofs.Cond.{either}
+use Rattle.numbers.proofs.Cond.{either}
 use Rattle.lists.specs.declared.Item.{Item}
 use Rattle.lists.specs.declared.Measured.the-variants.{Sum, Wrong}
 use Rattle.lists.specs.Tokens.{Token, number, identifier, string, operator}

@@ -18,7 +18,7 @@ use Rattle.lists.specs.Tokens.{Token, number, identifier, string, operat
 use Rattle.lists.specs.Written.{tokenBytes}
 use Rattle.lists.specs.Reading.{Got, onRead}
 use Rattle.tokens.specs.Joined.{dataOf}
-use Rattle.tokens.proofs.Cond.{both, split, both-are}
+use Rattle.numbers.proofs.Cond.{both, split, both-are}
 use Rattle.lists.proofs.SequenceBack.{sequence-back, sequence-plain, sequence-length}
 use Rattle.lists.proofs.OperatorBack.{operator-back, operator-plain, operator-some}
 use Rattle.lists.proofs.NumberBack.{number-back, number-plain, number-some}

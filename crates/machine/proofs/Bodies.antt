@@ -13,7 +13,7 @@ use Rattle.tokens.specs.declared.Read.the-variants.{Number, Identifier, String,
 use Rattle.tokens.specs.declared.Refusal.{Refusal}
 use Rattle.tokens.specs.declared.Refusal.the-variants.{TooDeep}
 use Rattle.tokens.specs.Token.{tokenAt}
-use Rattle.tokens.proofs.Cond.{either}
+use Rattle.numbers.proofs.Cond.{either}
 use Rattle.machine.specs.declared.Role.{Role}
 use Rattle.machine.specs.declared.Role.the-variants.{Plain, Holds, Closes, Barred}
 use Rattle.machine.specs.declared.Went.{Went}

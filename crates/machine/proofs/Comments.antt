@@ -12,7 +12,7 @@ use Rattle.tokens.specs.declared.Read.the-variants.{Number, Identifier, String,
 use Rattle.tokens.specs.declared.Refusal.the-variants.{CutOff}
 use Rattle.tokens.specs.Joined.{Joined, whole, cutAt, joinedAt}
 use Rattle.tokens.specs.Token.{sequence, pair, tokenOf, tokenAt}
-use Rattle.tokens.proofs.Cond.{either}
+use Rattle.numbers.proofs.Cond.{either}
 use Rattle.machine.specs.Skeleton.{pastComment, solidFrom, solid}
 use Rattle.machine.proofs.TokenLocal.{judged-all, token-beyond}
 

@@ -10,7 +10,7 @@ use Rattle.tokens.specs.declared.Read.{Read}
 use Rattle.tokens.specs.declared.Read.the-variants.{Number, Identifier, String, Operator, Comment, Unread}
 use Rattle.tokens.specs.declared.Rule.the-variants as rule
 use Rattle.tokens.specs.Token.{tokenAt}
-use Rattle.tokens.proofs.Cond.{either}
+use Rattle.numbers.proofs.Cond.{either}
 use Rattle.tokens.proofs.Told.{Tells, Text, Spans}
 use Rattle.tokens.proofs.Theorems.{token-tells-all}
 use Rattle.machine.specs.declared.Role.{Role}

@@ -12,7 +12,7 @@ use Rattle.tokens.specs.declared.Piece.{Piece}
 use Rattle.tokens.specs.declared.Piece.the-variants.{Data, Missing}
 use Rattle.tokens.specs.Bytes.{valueOf}
 use Rattle.tokens.specs.Joined.{Joined, whole, cutAt, lengthBytes, within, pieceAt, continued, onPiece, joinedFrom, joinedAt}
-use Rattle.tokens.proofs.Cond.{either, by-test, split}
+use Rattle.numbers.proofs.Cond.{either, by-test, split}
 use Rattle.tokens.proofs.Pieces.{length-bounds, within-data, piece-is, inside, Inside, joined-data, joined-missing}
 use Rattle.tokens.proofs.Turns.{at-end, turn}
 

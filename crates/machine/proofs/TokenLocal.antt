@@ -22,7 +22,7 @@ use Rattle.tokens.specs.Format.{bias}
 use Rattle.tokens.specs.Text.{every, isName}
 use Rattle.tokens.specs.Joined.{Joined, whole, cutAt, joinedAt}
 use Rattle.tokens.specs.Token.{numberRead, integerSize, rationalSize, judged, sequence, pair, tokenOf, tokenAt}
-use Rattle.tokens.proofs.Cond.{either}
+use Rattle.numbers.proofs.Cond.{either}
 use Rattle.tokens.proofs.Ends.{Ends, joined-ends}
 use Rattle.machine.proofs.JoinedLocal.{View, view, joined-in}
 

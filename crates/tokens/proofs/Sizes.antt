@@ -8,7 +8,7 @@ use Rattle.tokens.specs.declared.Read.{Read}
 use Rattle.tokens.specs.declared.Read.the-variants.{Unread}
 use Rattle.tokens.specs.declared.Refusal.the-variants.{BadData}
 use Rattle.tokens.specs.Token.{integerSize, rationalSize, ruled}
-use Rattle.tokens.proofs.Cond.{both-are}
+use Rattle.numbers.proofs.Cond.{both-are}
 
 pub ruled-not : (at : ℕ) (good : Bool) (t r : Read) → good ≡ false → r ≡ Unread BadData at → r ≡ ruled at good t
 ruled-not at good t r h e = rw (h, e)
