@@ -1,6 +1,6 @@
 -- The theorems of `load`, `run` and `reprint`, over their promises, and of every moment of a run. In order: one answer; what a refusal
 -- leaves; the same page; a page reprinted; the rest of rows; load, then run; moments; cases. `bodiesIn s` are the bytes of the master's
--- bodies, the preamble's first. Work: Verdicts, RowsKept, SamePage; Guarded, WithinLimits, Kept, Moments; CaseTable. Assumes nothing.
+-- bodies, the preamble's first. Work: Verdicts, RowsKept, SamePage; Guarded, WithinLimits, Kept, Moments; AllCases. Assumes nothing.
 use Prim.Native.Nat.{ℕ, _+_, _*_, _≤_, _<_, suc}
 use mathlib.Core.Path.{_≡_, sym, _∙_, refl}
 use mathlib.Core.Logic.{_≢_, _⊎_}
@@ -27,8 +27,10 @@ use Rattle.machine.proofs.Guarded.{moments-protected}
 use Rattle.machine.proofs.Moments.{start-good, moment-bounded}
 use Rattle.machine.proofs.Kept.{Sound, moment-sound, top-kept, second-kept}
 use Rattle.machine.specs.Page.{preambleOf, pageEnd, bodiesOf}
-use Rattle.machine.specs.Cases.{cases, failures}
-use Rattle.machine.proofs.CaseTable.{no-failures}
+use Rattle.numbers.specs.Each.{Each}
+use Rattle.machine.specs.Cases.{cases, Holds}
+use Rattle.machine.specs.Masters.{masters, RunsWhole}
+use Rattle.machine.proofs.AllCases.{all-hold}
 use Rattle.machine.proofs.Literals.{LiteralDue, literal-due}
 use Rattle.machine.specs.Skeleton.{Span, sound, skeletonOf}
 use Rattle.machine.specs.Step.{ended}
@@ -177,6 +179,10 @@ pub end-is-moment : (allowance : ℕ) (bodies : List (List ℕ)) (n : ℕ) → p
 unfolding pageEnd moment codeAt startAt
 end-is-moment allowance bodies n = refl
 
--- THEOREM (demand 2). The P cases of 01 that run, and their neighbours: none fails.
-pub cases-hold : failures 0 cases ≡ []
-cases-hold = no-failures
+-- THEOREM (demand 2). The P cases of 01 that run, and their neighbours.
+pub cases-hold : Each Holds cases
+cases-hold = all-hold .0
+
+-- THEOREM (demand 2). Whole masters: the answer of `load` and of `run`, and the rows.
+pub masters-hold : Each RunsWhole masters
+masters-hold = all-hold .1
