@@ -84,7 +84,7 @@ pub fn body(s: &[u8], at: usize, left: usize) -> Went
 {
     let q = past_comments(s, at);
     let mut p: usize;
-    match due_here(106, s, q) {
+    match due_here(roles::OPEN, s, q) {
         Went::Past { next } => {
             p = next;
         }
