@@ -8,7 +8,6 @@ use lib.Dec.{eqb}
 use lib.ListN.{length}
 use Rattle.tokens.specs.declared.Read.{Read}
 use Rattle.tokens.specs.declared.Read.the-variants.{Number, Identifier, String, Operator, Comment, Unread}
-use Rattle.tokens.specs.declared.Rule.the-variants as rule
 use Rattle.tokens.specs.Token.{tokenAt}
 use Rattle.numbers.proofs.Cond.{either}
 use Rattle.tokens.proofs.Told.{Tells, Text, Spans}
@@ -22,7 +21,7 @@ use Rattle.machine.specs.declared.Passed.the-variants.{On, Closed, Bad}
 use Rattle.machine.specs.declared.Literal.{Literal}
 use Rattle.machine.specs.declared.Literal.the-variants as literal
 use Rattle.machine.specs.Limits.{mostOpen}
-use Rattle.machine.specs.Skeleton.{opening, roleOf, pastComment, solidFrom, solid, follow, andThen, held, passing, literalBy, dueBy, due, literalsFrom, bodyAt}
+use Rattle.machine.specs.Skeleton.{opening, roleOf, pastComment, solidFrom, solid, follow, andThen, held, passing, literalBy, dueBy, due, literalsFrom, bodyAt, literalAt}
 use Rattle.machine.specs.Literal.{nothingAt, holdingBy, holdingAt, operatorBy, foundBy, foundAt}
 
 -- ---- a token
@@ -152,7 +151,7 @@ body-inside (suc k) s at =
 pub body-later : (k : ℕ) (s : List ℕ) (at : ℕ) → WentIn (length s) at (bodyAt k s at)
 body-later k s at = went-lower (length s) at (solid s at + 1) (bodyAt k s at) (omega (arith, solid-past s at)) (body-inside k s at)
 
-pub literal-later : (k : ℕ) (s : List ℕ) (at : ℕ) → PassedIn (length s) at (literalBy at (bodyAt k s) (tokenAt s at))
+pub literal-later : (k : ℕ) (s : List ℕ) (at : ℕ) → PassedIn (length s) at (literalAt k s at)
 literal-later k s at = literal-inside (length s) at (bodyAt k s) (body-later k s) (tokenAt s at) (token-inside s at)
 
 -- ---- the literal at a place
