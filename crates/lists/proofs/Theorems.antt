@@ -23,20 +23,8 @@ use Rattle.lists.proofs.RoundTrip.{tokens-back, tables-back, answer-bac
 pub cases-hold : Each (λ (c : Case). tokenBytes (c .token) ≡ c .bytes) cases
 unfolding cases tokenBytes operatorBytes rationalBytes wholeBytes sequenceBytes isShort bytesIn complementOf bytesOf
 cases-hold =
-    refl
-    & refl
-    & refl
-    & refl
-    & refl
-    & refl
-    & refl
-    & refl
-    & refl
-    & refl
-    & refl
-    & refl
-    & refl
-    & tt
+    refl & refl & refl & refl & refl & refl & refl & refl & refl & refl
+    & refl & refl & refl & tt
 
 -- THEOREM (demand 2). What `write` puts, `read_back` takes: the tables that it leaves hold the tokens that were written.
 pub read-write : {l x out out′ list list′ text text′ : List ℕ} {n m : ℕ} → Writes l x out out′ (Done n) → ReadsBack (take n out′) list list′ text text′ (Done m)

@@ -142,7 +142,7 @@ pub body-inside : (k : ℕ) (s : List ℕ) (at : ℕ) → WentIn (length s) (sol
 unfolding bodyAt
 body-inside zero s at = follow-inside (length s) _ (solid s at) (due opening s at) _ (due-inside opening s at) (λ p h. tt)
 body-inside (suc k) s at =
-    let rest : ℕ → Went = literalsFrom (length s) (λ p. literalBy p (bodyAt k s) (tokenAt s p)) in
+    let rest : ℕ → Went = literalsFrom (length s) (literalAt k s) in
     follow-inside (length s) _ (solid s at) (due opening s at) rest (due-inside opening s at)
     (λ p h. went-lower (length s) (solid s at + 1) p (rest p) (omega arith)
     (literals-of s (bodyAt k s) (λ r. went-lower (length s) r (solid s r + 1) (bodyAt k s r) (omega (arith, solid-past s r)) (body-inside k s r)) p))

@@ -23,9 +23,9 @@ master b r rows = record { bytes = b; answer = r; rows = rows }
 row : ℕ → ℕ → ℕ → ℕ → Row
 row outcome errors steps cells = record { outcome = outcome; errors = errors; steps = steps; cells = cells }
 
-unfoldable pub bytesOf : List Row → List ℕ
-bytesOf [] = []
-bytesOf (r ∷ rs) = bytesIn (rowWords r) ++ bytesOf rs
+unfoldable pub rowsBytes : List Row → List ℕ
+rowsBytes [] = []
+rowsBytes (r ∷ rs) = bytesIn (rowWords r) ++ rowsBytes rs
 
 -- what `run` judges once the tables and the allowance are right
 unfoldable pub judgedWhole : Master → Verdict
@@ -35,7 +35,7 @@ abbrev pub RunsWhole : Master → Type 0
 RunsWhole m =
     (loadAnswer (header ++ m .bytes) ≡ m .answer)
     × (runAnswer (judgedWhole m) ≡ m .answer)
-    × (rowsLeaves (pos 100000) (judgedWhole m) [] ≡ bytesOf (m .rows))
+    × (rowsLeaves (pos 100000) (judgedWhole m) [] ≡ rowsBytes (m .rows))
 
 unfoldable pub masters : List Master
 unfolding master row

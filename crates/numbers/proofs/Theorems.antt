@@ -65,17 +65,5 @@ answers-number a b =
 pub cases-hold : Each (λ (c : Case). c .computed ≡ c .answer) cases
 unfolding sumOf quotientOf wholeFrom floorOf ceilingOf truncOf roundOf lessTimes modOf remOf ratioOf limited gcdOf gcdTurns signedBy floorBy floorQuotient truncQuotient
 cases-hold =
-    refl
-    & refl
-    & refl
-    & refl
-    & refl
-    & refl
-    & refl
-    & refl
-    & refl
-    & refl
-    & refl
-    & refl
-    & refl
-    & tt
+    refl & refl & refl & refl & refl & refl & refl & refl & refl & refl
+    & refl & refl & refl & tt

@@ -1,4 +1,5 @@
--- What is said of each row of a table. Its proof has a line for each row, so the place of an error names the row that is wrong. Assumes nothing.
+-- What is said of each row of a table. Its proof has a part for each row, so the place and the text of an error name the row that is
+-- wrong. Assumes nothing.
 use mathlib.Core.List.{List, [], _∷_}
 
 infixr 5 _&_

@@ -15,9 +15,10 @@ use tokens::Outcome;
 use tokens::Read;
 use tokens::refusals::refused;
 
-// The most pages, and the most bodies open at once.
+// The most pages.
 const MOST_PAGES: usize = 512;
 
+// The most bodies that may be open at once.
 const MOST_OPEN: usize = 16;
 
 fn page_turn(s: &[u8], had: usize, at: usize) -> Turn

@@ -3,6 +3,7 @@ ghost use mathlib.Core.Path.{_≡_};
 ghost use Rattle.machine.specs.Skeleton.{oneOf, roleOf};
 use machine::Role;
 
+// Operators by number (000, appendix B).
 pub const BEGIN: u16 = 102;
 
 pub const END: u16 = 103;

@@ -49,31 +49,6 @@ token-end s at h = rw (le-ltb at (length s) h)
 pub cases-hold : Each (λ (c : Case). tokenAt (c .bytes) 0 ≡ c .token) cases
 unfolding cases tokenAt tokenOf sequence judged numberRead every obeys isName joinedAt joinedFrom onPiece pieceAt within valueAfter signedOf ratioOf limited signedBy gcdOf gcdTurns
 cases-hold =
-    refl
-    & refl
-    & refl
-    & refl
-    & refl
-    & refl
-    & refl
-    & refl
-    & refl
-    & refl
-    & refl
-    & refl
-    & refl
-    & refl
-    & refl
-    & refl
-    & refl
-    & refl
-    & refl
-    & refl
-    & refl
-    & refl
-    & refl
-    & refl
-    & refl
-    & refl
-    & refl
-    & tt
+    refl & refl & refl & refl & refl & refl & refl & refl & refl & refl
+    & refl & refl & refl & refl & refl & refl & refl & refl & refl & refl
+    & refl & refl & refl & refl & refl & refl & refl & tt
