@@ -8,7 +8,6 @@ use native.Mathlib.Omega.{arith}
 use lib.Dec.{leb, eqb}
 use lib.ListN.{length, getD}
 use borrow.Author.Tests.{le-leb, lt-leb, ltb-true, ne-eqb}
-use Rattle.tokens.specs.declared.Read.the-variants as R
 use Rattle.tokens.specs.declared.Rule.the-variants.{Named, Lowered}
 use Rattle.tokens.specs.Format.{stringType, identifierType, longestName}
 use Rattle.tokens.specs.Text.{isUpper, isLower, isDigit, isLetter, obeys, every, isName, lowerOf, lowered}
