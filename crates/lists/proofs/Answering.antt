@@ -1,21 +1,21 @@
 -- What `read_back` answers and leaves, by its tests. Assumes nothing.
 use mathlib.Core.Path.{_≡_, refl, ap, _∙_}
-use mathlib.Core.Bool.{Bool, true, false, cond, _&&_}
+use mathlib.Core.Bool.{true, false}
 use mathlib.Core.List.{List}
 use Prim.Native.Nat.{ℕ, _*_, _/_, _<_, _≤_}
 use native.Mathlib.Omega.{arith}
 use lib.Dec.{leb}
 use lib.ListN.{length}
 use borrow.Author.Tests.{le-leb, lt-leb}
+use Rattle.numbers.proofs.Cond.{no-left, no-right}
 use Rattle.table.proofs.Stores.{front}
 use Rattle.tokens.specs.declared.Outcome.the-variants.{Done, Refused}
 use Rattle.tokens.specs.declared.Refusal.{Refusal}
 use Rattle.tokens.specs.declared.Refusal.the-variants.{BadHeader, TooLong, TableTooShort}
-use Rattle.tokens.specs.Format.{header}
+use Rattle.tokens.specs.Format.{header, starts}
 use Rattle.lists.specs.declared.Survey.the-variants.{Sound, Broken}
 use Rattle.lists.specs.Tokens.{Token}
 use Rattle.lists.specs.Reading.{Got, got, refused, readList}
-use Rattle.tokens.specs.Format.{starts}
 use Rattle.lists.specs.Promise.{over, textsOf, listOf, holds, readAnswer, listLeaves, textLeaves, ReadsBack}
 use Rattle.lists.specs.Filling.{tokensIn, surveyOf, Holds, tokensGot, Fills}
 use Rattle.lists.proofs.SameTables.{list-length}
@@ -31,16 +31,6 @@ sound-is : (G : Got) (c x : ℕ) → Sound c x ≡ surveyOf G → (ts : List Tok
 unfolding surveyOf
 sound-is (got ts) c x e = (ts, refl, cc, cc)
 sound-is (refused w q) c x e = absurd (let z : _≡_ {A = ℕ} 0 1 = cc in omega arith)
-
-no-right : (a b : Bool) → b ≡ false → a && b ≡ false
-no-right true b e = e
-no-right false true e = refl
-no-right false false e = refl
-
-no-left : (a b : Bool) → a ≡ false → a && b ≡ false
-no-left true b e = absurd (let z : _≡_ {A = ℕ} 0 1 = ap (λ (t : Bool). cond t 0 1) e in omega arith)
-no-left false true e = refl
-no-left false false e = refl
 
 -- ---- the answer
 

@@ -7,6 +7,7 @@ use lib.Dec.{leb}
 use lib.ListN.{length}
 use lib.Seq.{sets}
 use borrow.Author.Tests.{le-leb, lt-leb}
+use Rattle.numbers.proofs.Cond.{no-left, no-right, split}
 use Rattle.table.proofs.Stores.{front}
 use Rattle.tokens.specs.declared.Outcome.{Outcome}
 use Rattle.tokens.specs.declared.Outcome.the-variants.{Done, Refused}
@@ -17,8 +18,6 @@ use Rattle.lists.specs.Written.{writtenOf}
 use Rattle.lists.specs.Listing.{Listed, all, wrong, listed}
 use Rattle.lists.specs.Promise.{over, writeAnswer, writeLeaves, Writes}
 use Rattle.lists.specs.Inner.{capped, measuredOf, Fits, tokensIn}
-use Rattle.lists.proofs.Sizes.{split}
-use Rattle.lists.proofs.Judging.{no-left, no-right}
 
 capped-small : (m : ℕ) → capped m ≤ 16777215 → capped m ≡ m
 unfolding capped

@@ -12,7 +12,7 @@ use Rattle.tokens.specs.declared.Read.{Read}
 use Rattle.tokens.specs.declared.Read.the-variants.{Number, Identifier, String, Operator, Comment, Unread}
 use Rattle.tokens.specs.declared.Refusal.{Refusal}
 use Rattle.tokens.specs.Token.{tokenAt}
-use Rattle.tokens.proofs.Cond.{either}
+use Rattle.numbers.proofs.Cond.{either}
 use Rattle.tokens.proofs.Told.{Told}
 use Rattle.lists.specs.declared.Place.{Place}
 use Rattle.lists.specs.Tokens.{Token}

@@ -13,6 +13,7 @@ use mir.Syntax.{w32}
 use mir.Val.{toZ}
 use borrow.Author.Tests.{lt-ltb, le-ltb, le-leb, lt-leb, ne-eqb}
 use Rattle.numbers.specs.Fraction.{isFraction}
+use Rattle.numbers.proofs.Cond.{no-left, no-right}
 use Rattle.tokens.specs.declared.Rule.{Rule}
 use Rattle.tokens.specs.Text.{isLetter, every, isName}
 use Rattle.table.specs.Words.{wordAt}
@@ -21,17 +22,6 @@ use Rattle.lists.specs.declared.Item.the-variants.{Number, Operator, Bad
 use Rattle.lists.specs.Tokens.{Token, identifier, string, operator, writable}
 use Rattle.lists.specs.Listing.{writes, entry, inTable, entryOf, entryAt}
 use Rattle.lists.specs.Inner.{numberIn, textToken, entryIs, Judged}
-
-pub no-left : (a b : Bool) → a ≡ false → a && b ≡ false
-no-left a b e = ap (λ (t : Bool). t && b) e ∙ go b
-  where
-    go : (b : Bool) → false && b ≡ false
-    go true = refl
-    go false = refl
-
-pub no-right : (a b : Bool) → b ≡ false → a && b ≡ false
-no-right true b e = e
-no-right false b e = no-left false b refl
 
 all-true : (a b c d : Bool) → a ≡ true → b ≡ true → c ≡ true → a && (b && (c && d)) ≡ d
 all-true a b c d e f g = rw (e, f, g)

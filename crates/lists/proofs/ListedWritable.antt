@@ -11,7 +11,7 @@ use mir.Val.{toZ}
 use Rattle.table.specs.Words.{wordAt}
 use Rattle.lists.specs.Tokens.{Token, number, identifier, string, operator, writable, allWritable}
 use Rattle.lists.specs.Listing.{Entry, writes, bad, entry, inTable, entryOf, entryAt, Listed, all, wrong, onEntry, listedFrom, listed}
-use Rattle.tokens.proofs.Cond.{either, both, both-are}
+use Rattle.numbers.proofs.Cond.{either, both, both-are}
 
 -- an entry's token is writable
 abbrev Sound : Entry → Type 0

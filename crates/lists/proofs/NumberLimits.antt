@@ -8,7 +8,7 @@ use borrow.Author.Tests.{leb-true, eqb-true}
 use Rattle.numbers.specs.declared.Number.{Number}
 use Rattle.numbers.specs.Gcd.{gcdOf}
 use Rattle.numbers.specs.Fraction.{most, isFraction, isNumber}
-use Rattle.tokens.proofs.Cond.{both}
+use Rattle.numbers.proofs.Cond.{both}
 
 pub record Limits (a : Number) : Type 0 where
   pub small : natAbs (a .num) ≤ 2147483647

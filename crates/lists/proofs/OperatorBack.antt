@@ -11,7 +11,7 @@ use Rattle.tokens.specs.declared.Read.the-variants.{Operator}
 use Rattle.tokens.specs.Joined.{continued}
 use Rattle.tokens.specs.Token.{tokenAt, tokenOf}
 use Rattle.lists.specs.Written.{operatorBytes}
-use Rattle.tokens.proofs.Cond.{split}
+use Rattle.numbers.proofs.Cond.{split}
 
 pub operator-short : (n : ℕ) → n < 32 → operatorBytes n ≡ (128 + n) ∷ []
 unfolding operatorBytes

@@ -1,51 +1,34 @@
--- The two passes over a list, a token at a turn. In order: no written token is empty; one more token; counting up to a
--- limit; a turn of either pass; the first pass; the written form only grows; the second pass. Assumes nothing.
+-- The two passes over a list, a token at a turn. In order: one more token; counting up to a limit; a turn of
+-- either pass; the first pass; the written form only grows; the second pass. Assumes nothing.
 use mathlib.Core.Path.{_≡_, refl, sym, ap, subst, _∙_}
 use mathlib.Core.Bool.{cond}
 use mathlib.Core.List.{List, [], _∷_, _++_, append-assoc, append-nil}
 use Prim.Native.Nat.{ℕ, zero, suc, _+_, _-_, _/_, _<_, _≤_}
 use native.Mathlib.Nat.{le-refl}
 use native.Mathlib.Omega.{arith}
-use lib.Dec.{ltb, leb, eqb}
+use lib.Dec.{ltb, leb}
 use lib.ListN.{length, length-append}
 use lib.Seq.{sets}
-use lib.IntN.{ℤ}
 use borrow.Author.Tests.{lt-ltb, le-ltb, le-leb, lt-leb}
 use Rattle.tokens.specs.Format.{header}
-use Rattle.tokens.proofs.Cond.{either}
+use Rattle.numbers.proofs.Cond.{either, split}
 use Rattle.lists.specs.declared.Item.{Item}
 use Rattle.lists.specs.declared.Measured.the-variants.{Sum, Wrong}
-use Rattle.lists.specs.Tokens.{Token, number, identifier, string, operator}
-use Rattle.lists.specs.Written.{isShort, sequenceBytes, wholeBytes, rationalBytes, operatorBytes, tokenBytes, tokensBytes, writtenOf}
+use Rattle.lists.specs.Tokens.{Token}
+use Rattle.lists.specs.Written.{tokenBytes, tokensBytes, writtenOf}
 use Rattle.lists.specs.Listing.{Entry, writes, bad, entryAt, Listed, all, wrong, onEntry, listedFrom, listed}
 use Rattle.lists.specs.Inner.{entryIs, GoodItem, Judged, Room, Put, entryTokens, entryBytes, capped, measuredOf, Fits, tokensIn}
 use Rattle.lists.proofs.Storing.{put-then}
-use Rattle.lists.proofs.Sizes.{split}
+use Rattle.lists.proofs.SameTables.{list-turn}
+use Rattle.lists.proofs.TokenBack.{some-byte}
+use Rattle.lists.proofs.ReadWrite.{written-length}
 
--- ---- no written token is empty
-
-abbrev Some : List ℕ → Type 0
-Some b = 1 ≤ length b
-
-sequence-some : (k : ℕ) (d : List ℕ) → Some (sequenceBytes k d)
-unfolding sequenceBytes
-sequence-some k d = either Some (leb (length d) 255) _ _ (λ e. omega arith) (λ e. omega arith)
-
-whole-some : (z : ℤ) → Some (wholeBytes z)
-unfolding wholeBytes
-whole-some z = either Some (isShort z) _ _ (λ e. omega arith) (λ e. sequence-some 2 _)
-
-token-some : (t : Token) → Some (tokenBytes t)
-unfolding tokenBytes rationalBytes operatorBytes
-token-some (number a) = either Some (eqb (a .den) 1) _ _ (λ e. whole-some (a .num)) (λ e. sequence-some 4 _)
-token-some (identifier d) = sequence-some 5 d
-token-some (string d) = sequence-some 1 d
-token-some (operator n) = either Some (ltb n 32) _ _ (λ e. omega arith) (λ e. omega arith)
+-- ---- one more token
 
 module _ (at : ℕ) (ts : List Token) (more : List Token → Listed) where
   on-none : (e : Entry) → length (entryBytes e) ≡ 0 → onEntry at ts e more ≡ wrong (at / 16)
   unfolding entryBytes onEntry
-  on-none (writes t) h = absurd (omega (arith, token-some t))
+  on-none (writes t) h = absurd (omega (arith, some-byte t))
   on-none bad h = refl
 
   on-some : (e : Entry) → (length (entryBytes e) ≡ 0 → ⊥) → onEntry at ts e more ≡ more (ts ++ entryTokens e)
@@ -53,17 +36,11 @@ module _ (at : ℕ) (ts : List Token) (more : List Token → Listed) where
   on-some (writes t) h = refl
   on-some bad h = absurd (h refl)
 
--- ---- one more token
-
 tokens-more : (ts : List Token) (e : Entry) → tokensBytes (ts ++ entryTokens e) ≡ tokensBytes ts ++ entryBytes e
 unfolding tokensBytes entryTokens entryBytes
 tokens-more [] (writes t) = append-nil (tokenBytes t)
 tokens-more [] bad = refl
 tokens-more (u ∷ ts) e = ap (λ (b : List ℕ). tokenBytes u ++ b) (tokens-more ts e) ∙ sym (append-assoc (tokenBytes u) (tokensBytes ts) (entryBytes e))
-
-written-length : (ts : List Token) → length (writtenOf ts) ≡ 21 + length (tokensBytes ts)
-unfolding writtenOf header
-written-length ts = length-append header (tokensBytes ts)
 
 more-length : (ts : List Token) (e : Entry) → length (writtenOf (ts ++ entryTokens e)) ≡ length (writtenOf ts) + length (entryBytes e)
 more-length ts e =
@@ -89,12 +66,6 @@ counted : (ts : List Token) (e : Entry) (total n t : ℕ) → n ≡ length (entr
 counted ts e total n t f c d = d ∙ rw (c, capped-add (length (writtenOf ts)) n, more-length ts e, f)
 
 -- ---- a turn
-
-list-turn : (k : ℕ) (l x : List ℕ) (at : ℕ) (ts : List Token) → length l ≤ at + k →
-    listedFrom k l x at ts ≡ cond (ltb at (length l)) (onEntry at ts (entryAt l x at) (listedFrom (k - 1) l x (at + 16))) (all ts)
-unfolding listedFrom
-list-turn zero l x at ts h = rw (le-ltb at (length l) (omega arith))
-list-turn (suc k) l x at ts h = let e : suc k - 1 ≡ k = omega arith in rw e
 
 -- ts are the tokens before byte `at`: with the rest of the list, at most k tokens, they are the whole list J
 pub record Before (l x : List ℕ) (J : Listed) (at k : ℕ) (ts : List Token) : Type 0 where

@@ -14,7 +14,7 @@ use Rattle.lists.specs.Tokens.{Token, allWritable}
 use Rattle.lists.specs.Listing.{all, listed}
 use Rattle.lists.specs.Reading.{Got, got, refused, readList}
 use Rattle.lists.specs.Promise.{over, textsOf, listOf, holds, readAnswer, listLeaves, textLeaves, ReadsBack}
-use Rattle.tokens.proofs.Cond.{by-test}
+use Rattle.numbers.proofs.Cond.{by-test}
 use Rattle.lists.proofs.SameTables.{list-length, same-list}
 
 -- ---- tokens that are read

@@ -11,7 +11,7 @@ use borrow.Author.Tests.{lt-ltb, le-ltb, le-leb}
 use Rattle.tokens.specs.Format.{header}
 use Rattle.tokens.specs.Joined.{continued}
 use Rattle.tokens.specs.Token.{tokenAt}
-use Rattle.tokens.proofs.Cond.{both}
+use Rattle.numbers.proofs.Cond.{both}
 use Rattle.lists.specs.Tokens.{Token, writable, allWritable}
 use Rattle.lists.specs.Written.{tokenBytes, tokensBytes, writtenOf}
 use Rattle.lists.specs.Reading.{got, onRead, readFrom, readList}

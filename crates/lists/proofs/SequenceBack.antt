@@ -17,7 +17,7 @@ use Rattle.tokens.proofs.Pieces.{piece-is, within-data, joined-data}
 use Rattle.tokens.proofs.Turns.{turn}
 use Rattle.lists.specs.Written.{bytesOf, sequenceBytes}
 use Rattle.lists.proofs.HighBytes.{bytes-length, bytes-value}
-use Rattle.tokens.proofs.Cond.{split}
+use Rattle.numbers.proofs.Cond.{split}
 
 -- a part of what stands after p
 pub after : (p q : List ℕ) (i j : ℕ) → slice (length p + i) (length p + j) (p ++ q) ≡ slice i j q

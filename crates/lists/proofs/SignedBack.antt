@@ -10,7 +10,7 @@ use lib.Pow.{pow-add, pow-mono, pow-pos}
 use lib.Signed.{mag}
 use borrow.Author.Tests.{lt-ltb, le-ltb, ltb-true, ltb-false}
 use Rattle.tokens.specs.Bytes.{signedOf}
-use Rattle.tokens.proofs.Cond.{either}
+use Rattle.numbers.proofs.Cond.{either}
 use Rattle.lists.specs.Written.{complementOf, holdsIn, bytesIn, larger}
 
 -- the power of k bytes is twice that of their numbers

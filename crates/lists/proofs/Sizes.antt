@@ -1,11 +1,10 @@
 -- The words of a number: its size, its short form, the fewest bytes that hold it; and the length of written tokens. Assumes nothing.
 use mathlib.Core.Path.{_≡_, refl, sym, ap, _∙_}
-use mathlib.Core.Bool.{Bool, true, false, cond}
+use mathlib.Core.Bool.{Bool, false, cond}
 use mathlib.Core.List.{List, [], _∷_, _++_}
 use Prim.Native.Nat.{ℕ, zero, suc, _+_, _-_, _*_, _/_, _%_, _^_, _<_, _≤_}
 use native.Mathlib.Nat.{lt-of-lt-of-le, add-mul, mul-assoc, one-mul}
 use native.Mathlib.Omega.{arith}
-use lib.Dec.{ltb}
 use lib.Pow.{pow-mono, pow-add, pow-pos}
 use lib.ListN.{length, length-append}
 use lib.Seq.{slice}
@@ -13,21 +12,14 @@ use lib.IntN.{ℤ, pos, negsuc, natAbs, subℕ, _+ℤ_}
 use lib.Signed.{mag}
 use mir.Syntax.{w32}
 use mir.Val.{toZ, sel}
-use borrow.Author.Tests.{lt-ltb, le-ltb, ltb-true, ltb-false, ne-eqb}
+use borrow.Author.Tests.{lt-ltb, le-ltb, ne-eqb}
+use Rattle.numbers.proofs.Cond.{split}
 use Rattle.lists.specs.Written.{bytesOf, complementOf, integerBytes, bytesIn, larger, isShort, sequenceBytes, wholeBytes, rationalBytes, operatorBytes, tokenBytes}
 use Rattle.lists.specs.declared.Item.{Item}
 use Rattle.lists.specs.declared.Item.the-variants.{Number, Identifier, String, Operator, Bad}
 use Rattle.lists.specs.Inner.{numberIn, entryIs, GoodItem, Small, headBytes, integerSequence, entryBytes}
 use Rattle.lists.proofs.HighBytes.{bytes-length}
 use Rattle.lists.proofs.Storing.{sequence-is, head-short, head-long}
-
--- by a test of two numbers
-pub split : {A : Type 0} (a b : ℕ) → (a < b → A) → (b ≤ a → A) → A
-split {A} a b f g = go (ltb a b) refl
-  where
-    go : (t : Bool) → ltb a b ≡ t → A
-    go true e = f (ltb-true a b e)
-    go false e = g (ltb-false a b e)
 
 -- ---- a word as a signed number
 

@@ -1,9 +1,10 @@
 -- The theorems of the two calls on token lists: `write` and `read_back`, over their promises. Assumes nothing.
 use mathlib.Core.Path.{_≡_, refl, sym, _∙_}
 use mathlib.Core.Bool.{true}
-use mathlib.Core.List.{List, map}
+use mathlib.Core.List.{List}
 use Prim.Native.Nat.{ℕ, _*_, _≤_}
 use lib.ListN.{length, take, drop}
+use Rattle.numbers.specs.Each.{Each, _&_}
 use Rattle.tokens.specs.declared.Outcome.{Outcome}
 use Rattle.tokens.specs.declared.Outcome.the-variants.{Done, Refused}
 use Rattle.tokens.specs.declared.Refusal.{Refusal}
@@ -19,9 +20,11 @@ use Rattle.lists.proofs.ReadPromise.{unread-kept}
 use Rattle.lists.proofs.RoundTrip.{tokens-back, tables-back, answer-back}
 
 -- THEOREM (demand 2). The written forms that 01 gives, by computation.
-pub cases-hold : map (λ (c : Case). tokenBytes (c .token)) cases ≡ map (λ (c : Case). c .bytes) cases
+pub cases-hold : Each (λ (c : Case). tokenBytes (c .token) ≡ c .bytes) cases
 unfolding cases tokenBytes operatorBytes rationalBytes wholeBytes sequenceBytes isShort bytesIn complementOf bytesOf
-cases-hold = refl
+cases-hold =
+    refl & refl & refl & refl & refl & refl & refl & refl & refl & refl
+    & refl & refl & refl & tt
 
 -- THEOREM (demand 2). What `write` puts, `read_back` takes: the tables that it leaves hold the tokens that were written.
 pub read-write : {l x out out′ list list′ text text′ : List ℕ} {n m : ℕ} → Writes l x out out′ (Done n) → ReadsBack (take n out′) list list′ text text′ (Done m)

@@ -8,7 +8,6 @@ use native.Mathlib.Omega.{arith}
 use lib.Dec.{leb, eqb}
 use lib.ListN.{length, getD}
 use borrow.Author.Tests.{le-leb, lt-leb, ltb-true, ne-eqb}
-use Rattle.tokens.specs.declared.Read.the-variants as R
 use Rattle.tokens.specs.declared.Rule.the-variants.{Named, Lowered}
 use Rattle.tokens.specs.Format.{stringType, identifierType, longestName}
 use Rattle.tokens.specs.Text.{isUpper, isLower, isDigit, isLetter, obeys, every, isName, lowerOf, lowered}
@@ -18,7 +17,7 @@ use Rattle.lists.specs.Tokens.{Token, number, identifier, string, operat
 use Rattle.lists.specs.Written.{tokenBytes}
 use Rattle.lists.specs.Reading.{Got, onRead}
 use Rattle.tokens.specs.Joined.{dataOf}
-use Rattle.tokens.proofs.Cond.{both, split, both-are}
+use Rattle.numbers.proofs.Cond.{both, split, both-are}
 use Rattle.lists.proofs.SequenceBack.{sequence-back, sequence-plain, sequence-length}
 use Rattle.lists.proofs.OperatorBack.{operator-back, operator-plain, operator-some}
 use Rattle.lists.proofs.NumberBack.{number-back, number-plain, number-some}

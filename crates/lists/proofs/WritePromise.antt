@@ -16,7 +16,7 @@ use Rattle.lists.specs.Tokens.{Token}
 use Rattle.lists.specs.Written.{writtenOf}
 use Rattle.lists.specs.Listing.{Listed, all, wrong, listed}
 use Rattle.lists.specs.Promise.{over, roomFor, writeAnswer, writeLeaves, Writes}
-use Rattle.tokens.proofs.Cond.{both, by-test}
+use Rattle.numbers.proofs.Cond.{both, by-test}
 
 -- ---- tokens that are written
 

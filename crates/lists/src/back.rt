@@ -5,7 +5,7 @@ ghost use lib.ListN.{length};
 ghost use lib.Seq.{sets, slice};
 ghost use mir.Syntax.{w32};
 ghost use mir.Val.{ofZ};
-ghost use Rattle.tokens.specs.declared.Outcome.the-variants.{Refused};
+ghost use Rattle.tokens.specs.Format.{longest};
 ghost use Rattle.tokens.specs.Joined.{dataOf, joinedAt, continuations, FitsText};
 ghost use Rattle.lists.specs.Promise.{fourWords, ReadsBack};
 ghost use Rattle.lists.specs.Filling.{tokensIn, stepOf, surveyOf, shown, Put, Room, Holds, tokensGot, Fills};
@@ -201,7 +201,7 @@ fn put_read(
 
 // Fills the tables with a list that was surveyed and fits.
 fn fill_tables(s: &[u8], list: &mut [u8], text: &mut [u8])
-    requires { ⌜ (length (now s) ≤ 16777215) × Holds (tokensIn (now s)) (length (now list)) (length (now text)) ⌝ }
+    requires { ⌜ (length (now s) ≤ longest) × Holds (tokensIn (now s)) (length (now list)) (length (now text)) ⌝ }
     ensures { λ _. ⌜ Fills (tokensGot (tokensIn (now (s .entry)))) (now (list .entry)) (now (list .exit)) (now (text .entry)) (now (text .exit)) ⌝ }
 {
     let mut at: usize = 21;
@@ -215,32 +215,26 @@ fn fill_tables(s: &[u8], list: &mut [u8], text: &mut [u8])
     }
 }
 
-fn refused(refusal: tokens::Refusal, place: usize) -> tokens::Outcome
-    ensures { λ r. ⌜ r ≡ Refused refusal place ⌝ }
-{
-    tokens::Outcome::Refused { refusal, place }
-}
-
 // Reads a written list back into a token table and a text table, and answers the number of tokens.
 pub fn read_back(s: &[u8], list: &mut [u8], text: &mut [u8]) -> tokens::Outcome
     ensures { λ r. ⌜ ReadsBack (now (s .entry)) (now (list .entry)) (now (list .exit)) (now (text .entry)) (now (text .exit)) r ⌝ }
 {
-    if 16777215 < s.len() {
-        return refused(tokens::Refusal::TooLong, 0);
+    if tokens::header::LONGEST < s.len() {
+        return tokens::refusals::refused(tokens::Refusal::TooLong, 0);
     }
-    if !tokens::header::starts_with(b"Interpress/Xerox/3.0 ", s) {
-        return refused(tokens::Refusal::BadHeader, 0);
+    if !tokens::header::begins(s) {
+        return tokens::refusals::refused(tokens::Refusal::BadHeader, 0);
     }
     match survey_of(s) {
         Survey::Broken { refusal, place } => {
-            return refused(refusal, place);
+            return tokens::refusals::refused(refusal, place);
         }
         Survey::Sound { count, texts } => {
             if list.len() / 16 < count {
-                return refused(tokens::Refusal::TableTooShort, 0);
+                return tokens::refusals::refused(tokens::Refusal::TableTooShort, 0);
             }
             if text.len() < texts {
-                return refused(tokens::Refusal::TableTooShort, 0);
+                return tokens::refusals::refused(tokens::Refusal::TableTooShort, 0);
             }
             fill_tables(s, list, text);
             return tokens::Outcome::Done { value: count };

@@ -308,7 +308,7 @@ pub fn write(list: &[u8], text: &[u8], out: &mut [u8]) -> tokens::Outcome
             };
         }
         Measured::Sum { len } => {
-            if 16777215 < len {
+            if tokens::header::LONGEST < len {
                 return tokens::Outcome::Refused {
                     refusal: tokens::Refusal::NoRoom,
                     place: 0,

@@ -13,16 +13,17 @@ use Rattle.tokens.specs.declared.Read.the-variants.{Number, Identifier, String,
 use Rattle.tokens.specs.declared.Refusal.{Refusal}
 use Rattle.tokens.specs.declared.Refusal.the-variants.{TooDeep}
 use Rattle.tokens.specs.Token.{tokenAt}
-use Rattle.tokens.proofs.Cond.{either}
+use Rattle.numbers.proofs.Cond.{either}
 use Rattle.machine.specs.declared.Role.{Role}
 use Rattle.machine.specs.declared.Role.the-variants.{Plain, Holds, Closes, Barred}
 use Rattle.machine.specs.declared.Went.{Went}
 use Rattle.machine.specs.declared.Went.the-variants.{Past, Stop}
 use Rattle.machine.specs.declared.Passed.{Passed}
 use Rattle.machine.specs.declared.Passed.the-variants.{On, Closed, Bad}
-use Rattle.machine.specs.Skeleton.{opening, closing, roleOf, oneOf, holders, barred, solid, follow, andThen, held, passing, literalBy, dueBy, due, literalsFrom, bodyAt}
-use Rattle.machine.proofs.TokenLocal.{token-beyond}
-use Rattle.machine.proofs.Comments.{never, operator-beyond, Comments, comments-later, solid-is, comments-are, two-bytes}
+use Rattle.machine.specs.Skeleton.{opening, closing, roleOf, oneOf, holders, barred, solid, follow, andThen, held, passing, literalBy, dueBy, due, literalsFrom, bodyAt, literalAt}
+use Rattle.machine.proofs.Inside.{token-inside}
+use Rattle.machine.proofs.Inside as inside
+use Rattle.machine.proofs.Comments.{never, operator-beyond, Comments, solid-is, comments-are, two-bytes}
 
 -- how a literal, or a comment, is passed: by its token alone, or as far as the body that it holds; k more bodies may be open
 pub data Passing (s : List ℕ) (k at next : ℕ) : Type 0 where
@@ -78,10 +79,7 @@ closes-is n =
     P r = r ≡ Closes → n ≡ closing
 
 module _ (s : List ℕ) (k : ℕ) where
-  abbrev pub one : ℕ → Passed
-  one p = literalBy p (bodyAt k s) (tokenAt s p)
-
-  passing-of : (at next : ℕ) → one at ≡ On next → Passing s k at next
+  passing-of : (at next : ℕ) → literalAt k s at ≡ On next → Passing s k at next
   unfolding literalBy passing held
   passing-of at next = by-token (tokenAt s at) refl
     where
@@ -103,7 +101,7 @@ module _ (s : List ℕ) (k : ℕ) where
       by-token (Comment x) e h = comment (e ∙ ap Comment (same-on h))
       by-token (Unread refusal place) e h = never (bad-on h)
 
-  closed-of : (at next : ℕ) → one at ≡ Closed next → tokenAt s at ≡ Operator closing next
+  closed-of : (at next : ℕ) → literalAt k s at ≡ Closed next → tokenAt s at ≡ Operator closing next
   unfolding literalBy passing held
   closed-of at next = by-token (tokenAt s at) refl
     where
@@ -125,11 +123,11 @@ module _ (s : List ℕ) (k : ℕ) where
       by-token (Comment x) e h = never (closed-on (sym h))
       by-token (Unread refusal place) e h = never (bad-closed h)
 
-  closed-is : (at next : ℕ) → tokenAt s at ≡ Operator closing next → one at ≡ Closed next
+  closed-is : (at next : ℕ) → tokenAt s at ≡ Operator closing next → literalAt k s at ≡ Closed next
   unfolding literalBy passing roleOf
   closed-is at next e = rw e
 
-  literal-of : (at next : ℕ) → Passing s k at next → one at ≡ On next
+  literal-of : (at next : ℕ) → Passing s k at next → literalAt k s at ≡ On next
   unfolding literalBy passing held
   literal-of at next (figure value e) = rw e
   literal-of at next (name len e) = rw e
@@ -139,37 +137,45 @@ module _ (s : List ℕ) (k : ℕ) where
   literal-of at next (holding n inner e r h) = rw (e, r, h)
 
   -- and literals up to a `}`
-  pub literals-parts : (j at next : ℕ) → literalsFrom j one at ≡ Past next → (end : ℕ) × Passes s k at end × (tokenAt s end ≡ Operator closing next)
+  pub literals-parts : (j at next : ℕ) → literalsFrom j (literalAt k s) at ≡ Past next → (end : ℕ) × Passes s k at end × (tokenAt s end ≡ Operator closing next)
   unfolding literalsFrom andThen
   literals-parts zero at next h = never (stop-past h)
-  literals-parts (suc j) at next h = by-passed (λ x. literals-parts j x next) (one at) refl h
+  literals-parts (suc j) at next h = by-passed (λ x. literals-parts j x next) (literalAt k s at) refl h
     where
-      by-passed : ((x : ℕ) → literalsFrom j one x ≡ Past next → (end : ℕ) × Passes s k x end × (tokenAt s end ≡ Operator closing next))
-          → (p : Passed) → one at ≡ p → andThen p (literalsFrom j one) ≡ Past next → (end : ℕ) × Passes s k at end × (tokenAt s end ≡ Operator closing next)
+      by-passed : ((x : ℕ) → literalsFrom j (literalAt k s) x ≡ Past next → (end : ℕ) × Passes s k x end × (tokenAt s end ≡ Operator closing next))
+          → (p : Passed) → literalAt k s at ≡ p → andThen p (literalsFrom j (literalAt k s)) ≡ Past next → (end : ℕ) × Passes s k at end × (tokenAt s end ≡ Operator closing next)
       by-passed ih (On x) e g = let r = ih x g in (r .0, more (passing-of at x e) (r .1), r .2)
       by-passed ih (Closed x) e g = (at, stop, closed-of at x e ∙ ap (Operator closing) (same-past g))
       by-passed ih (Bad refusal place) e g = never (stop-past g)
 
--- ---- ends, where bodies at k levels end past their place
+-- ---- ends
+
+-- a body ends past its place
+pub body-later : (k : ℕ) (s : List ℕ) (at next : ℕ) → bodyAt k s at ≡ Past next → at < next
+body-later k s at next h = (rw h at (inside.body-later k s at)) .0
+
+-- and inside the input
+pub body-ends : (k : ℕ) (s : List ℕ) (at next : ℕ) → bodyAt k s at ≡ Past next → next ≤ length s
+body-ends k s at next h = (rw h at (inside.body-later k s at)) .1
 
 -- a token from `at` to `next` in n bytes begins among them
 begins-in : (at next n : ℕ) → (at < next) × (next ≤ n) → (at < next) × (at < n)
 begins-in at next n g = (g .0, omega (arith, g .0, g .1))
 
-module _ (s : List ℕ) (k : ℕ) (later : (at next : ℕ) → bodyAt k s at ≡ Past next → at < next) where
+module _ (s : List ℕ) (k : ℕ) where
   pub passing-later : (at next : ℕ) → Passing s k at next → (at < next) × (at < length s)
-  passing-later at next (figure value e) = begins-in at next (length s) (rw e at (token-beyond s at))
-  passing-later at next (name len e) = begins-in at next (length s) (rw e at (token-beyond s at))
-  passing-later at next (text count e) = begins-in at next (length s) (rw e at (token-beyond s at))
-  passing-later at next (comment e) = begins-in at next (length s) (rw e at (token-beyond s at))
+  passing-later at next (figure value e) = begins-in at next (length s) (rw e at (token-inside s at))
+  passing-later at next (name len e) = begins-in at next (length s) (rw e at (token-inside s at))
+  passing-later at next (text count e) = begins-in at next (length s) (rw e at (token-inside s at))
+  passing-later at next (comment e) = begins-in at next (length s) (rw e at (token-inside s at))
   passing-later at next (plain n e r) = begins-in at next (length s) (operator-beyond s at n next e)
-  passing-later at next (holding n inner e r h) = let g = begins-in at inner (length s) (operator-beyond s at n inner e) in (omega (arith, g .0, later inner next h), g .1)
+  passing-later at next (holding n inner e r h) = let g = begins-in at inner (length s) (operator-beyond s at n inner e) in (omega (arith, g .0, body-later k s inner next h), g .1)
 
   pub passes-later : (at end : ℕ) → Passes s k at end → at ≤ end
   passes-later at end stop = omega arith
   passes-later at end (more {next = next} p q) = omega (arith, passing-later at next p .0, passes-later next end q)
 
-  pub literals-of : (j at end next : ℕ) → length s ≤ at + j → Passes s k at end → tokenAt s end ≡ Operator closing next → literalsFrom j (one s k) at ≡ Past next
+  pub literals-of : (j at end next : ℕ) → length s ≤ at + j → Passes s k at end → tokenAt s end ≡ Operator closing next → literalsFrom j (literalAt k s) at ≡ Past next
   unfolding literalsFrom andThen
   literals-of zero at end next l stop e = let g = operator-beyond s at closing next e in absurd (omega (arith, g .0, g .1))
   literals-of zero at end next l (more {next = x} p q) e = absurd (omega (arith, passing-later at x p .1))
@@ -199,7 +205,7 @@ pub parts-of : (k : ℕ) (s : List ℕ) (at next : ℕ) → bodyAt (suc k) s at 
 unfolding bodyAt follow
 parts-of k s at next h = by-due (due opening s at) refl h
   where
-    by-due : (w : Went) → due opening s at ≡ w → follow w (literalsFrom (length s) (one s k)) ≡ Past next → Parts s k at next
+    by-due : (w : Went) → due opening s at ≡ w → follow w (literalsFrom (length s) (literalAt k s)) ≡ Past next → Parts s k at next
     by-due (Past x) e g =
         let o : tokenAt s (solid s at) ≡ Operator opening x = due-of opening s at x e in
         let z : x ≡ solid s at + 2 = two-bytes s (solid s at) opening x (lit≤ tt) o in
@@ -215,25 +221,13 @@ no-body {X = X} s at next h = by-due (due opening s at) h
     by-due (Past x) e = never (stop-past e)
     by-due (Stop refusal place) e = never (stop-past e)
 
--- a body ends past its place
-pub body-later : (k : ℕ) (s : List ℕ) (at next : ℕ) → bodyAt k s at ≡ Past next → at < next
-body-later zero s at next h = no-body s at next h
-body-later (suc k) s at next h =
-    let p = parts-of k s at next h in
-    omega (arith, comments-later s at (p .begins) (p .comments), passes-later s k (body-later k s) (p .begins + 2) (p .ends) (p .literals), operator-beyond s (p .ends) closing next (p .closes) .0)
-
--- and inside the input
-pub body-ends : (k : ℕ) (s : List ℕ) (at next : ℕ) → bodyAt k s at ≡ Past next → next ≤ length s
-body-ends zero s at next h = no-body s at next h
-body-ends (suc k) s at next h = let p = parts-of k s at next h in operator-beyond s (p .ends) closing next (p .closes) .1
-
 -- `{` and `}` are two bytes each
 pub body-long : (k : ℕ) (s : List ℕ) (at next : ℕ) → bodyAt k s at ≡ Past next → solid s at + 4 ≤ next
 body-long zero s at next h = no-body s at next h
 body-long (suc k) s at next h =
     let p = parts-of k s at next h in
-    omega (arith, solid-is s at (p .begins) (p .comments), passes-later s k (body-later k s) (p .begins + 2) (p .ends) (p .literals), two-bytes s (p .ends) closing next (lit≤ tt) (p .closes))
+    omega (arith, solid-is s at (p .begins) (p .comments), passes-later s k (p .begins + 2) (p .ends) (p .literals), two-bytes s (p .ends) closing next (lit≤ tt) (p .closes))
 
 pub body-of : (k : ℕ) (s : List ℕ) (at next : ℕ) → Parts s k at next → bodyAt (suc k) s at ≡ Past next
 unfolding bodyAt follow
-body-of k s at next p = rw (due-is opening s at (p .begins) (p .begins + 2) (p .comments) (p .opens)) (literals-of s k (body-later k s) (length s) (p .begins + 2) (p .ends) next (omega arith) (p .literals) (p .closes))
+body-of k s at next p = rw (due-is opening s at (p .begins) (p .begins + 2) (p .comments) (p .opens)) (literals-of s k (length s) (p .begins + 2) (p .ends) next (omega arith) (p .literals) (p .closes))

@@ -10,11 +10,12 @@ use Rattle.tokens.specs.declared.Read.{Read}
 use Rattle.tokens.specs.declared.Read.the-variants.{Number, Identifier, String, Operator, Comment, Unread}
 use Rattle.tokens.specs.Token.{tokenAt}
 use Rattle.machine.specs.declared.Went.the-variants.{Past}
-use Rattle.machine.specs.Skeleton.{opening, closing, solid, due, literalsFrom, bodyAt}
+use Rattle.machine.specs.Skeleton.{opening, closing, solid, due, literalsFrom, bodyAt, literalAt}
 use Rattle.machine.proofs.JoinedLocal.{View, view}
-use Rattle.machine.proofs.TokenLocal.{EndsBy, back, token-beyond, begins-before, token-in}
+use Rattle.machine.proofs.Inside.{token-inside}
+use Rattle.machine.proofs.TokenLocal.{EndsBy, back, begins-before, token-in}
 use Rattle.machine.proofs.Comments.{operator-beyond, NoComment, Comments, none-at, one-at, comments-later, solid-is, comments-are}
-use Rattle.machine.proofs.Bodies.{Passing, figure, name, text, comment, plain, holding, Passes, stop, more, Parts, one, due-of, due-is, literals-parts, literals-of, passing-later, passes-later, parts-of, no-body, body-later, body-ends, body-of}
+use Rattle.machine.proofs.Bodies.{Passing, figure, name, text, comment, plain, holding, Passes, stop, more, Parts, due-of, due-is, literals-parts, literals-of, passing-later, passes-later, parts-of, no-body, body-later, body-ends, body-of}
 
 no-comment-back : (a : ℕ) (t : Read) → NoComment t → NoComment (back a t)
 unfolding back
@@ -38,7 +39,7 @@ module _ (s : List ℕ) (a e : ℕ) (b : List ℕ) (v : View s a e b) where
   comments-in x at q p (one-at {next = next} h c) k =
       let l : q < e = begins-before s q e k in
       let i : next ≤ q = comments-later s next q c in
-      let g : (x < next) × (next ≤ length s) = rw h at (token-beyond s x) in
+      let g : (x < next) × (next ≤ length s) = rw h at (token-inside s x) in
       let g0 : x < next = g .0 in
       one-at (token-back x at (Comment next) p h (omega arith)) (comments-in next (next - a) q (omega arith) c k)
 
@@ -62,14 +63,14 @@ module _ (s : List ℕ) (a e : ℕ) (b : List ℕ) (v : View s a e b) where
     passes-in : (x at end : ℕ) → x ≡ a + at → Passes s k x end → end ≤ e → Passes b m at (end - a)
     passes-in x at end p stop h = let z : x - a ≡ at = omega arith in rw z stop
     passes-in x at end p (more {next = next} i q) h =
-        let l : next ≤ end = passes-later s k (body-later k s) next end q in
-        let g : x < next = passing-later s k (body-later k s) x next i .0 in
+        let l : next ≤ end = passes-later s k next end q in
+        let g : x < next = passing-later s k x next i .0 in
         more (passing-in x at next p i (omega arith)) (passes-in next (next - a) end (omega arith) q h)
 
     parts-in : (x at next : ℕ) → x ≡ a + at → Parts s k x next → next ≤ e → Parts b m at (next - a)
     parts-in x at next p r h =
         let c : x ≤ r .begins = comments-later s x (r .begins) (r .comments) in
-        let l : r .begins + 2 ≤ r .ends = passes-later s k (body-later k s) (r .begins + 2) (r .ends) (r .literals) in
+        let l : r .begins + 2 ≤ r .ends = passes-later s k (r .begins + 2) (r .ends) (r .literals) in
         let g : r .ends < next = operator-beyond s (r .ends) closing next (r .closes) .0 in
         let z : r .begins + 2 - a ≡ r .begins - a + 2 = omega arith in
         record {
@@ -110,12 +111,12 @@ module _ (s : List ℕ) (a e p : ℕ) (inside : e ≤ length s) (begins : a ≤ 
       let c : p ≤ q = comments-later s p q (comments-are s p) in
       due-is n b (p - a) (q - a) (next - a) (comments-in s a e b v p (p - a) q (omega arith) (comments-are s p) (rw o l)) (operator-in s a e b v q (q - a) n next (omega arith) o l)
 
-  pub literals-local : (k m next : ℕ) → k ≤ m → literalsFrom (length s) (one s k) p ≡ Past next → next ≤ e → literalsFrom (length (slice a e s)) (one (slice a e s) m) (p - a) ≡ Past (next - a)
+  pub literals-local : (k m next : ℕ) → k ≤ m → literalsFrom (length s) (literalAt k s) p ≡ Past next → next ≤ e → literalsFrom (length (slice a e s)) (literalAt m (slice a e s)) (p - a) ≡ Past (next - a)
   literals-local k m next few h l =
       let r = literals-parts s k (length s) p next h in
       let g : r .0 < next = operator-beyond s (r .0) closing next (r .2) .0 in
-      let c : p ≤ r .0 = passes-later s k (body-later k s) p (r .0) (r .1) in
-      literals-of b m (body-later m b) (length b) (p - a) (r .0 - a) (next - a) (omega arith) (literals-in s a e b v k m p (p - a) (r .0) few (omega arith) (r .1) (omega arith))
+      let c : p ≤ r .0 = passes-later s k p (r .0) (r .1) in
+      literals-of b m (length b) (p - a) (r .0 - a) (next - a) (omega arith) (literals-in s a e b v k m p (p - a) (r .0) few (omega arith) (r .1) (omega arith))
       (operator-in s a e b v (r .0) (r .0 - a) closing next (omega arith) (r .2) l)
 
   pub body-local : (k m next : ℕ) → k ≤ m → bodyAt k s p ≡ Past next → next ≤ e → bodyAt m (slice a e s) (p - a) ≡ Past (next - a)

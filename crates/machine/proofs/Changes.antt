@@ -22,7 +22,7 @@ use Rattle.machine.specs.State.{Entry, val, mark, Context, State, runnin
 use Rattle.machine.specs.Literal.{Code}
 use Rattle.machine.specs.Contexts.{beneath, over}
 use Rattle.machine.specs.Engine.{fits, limited, provided, withStack, withContexts, values, withValues, pops, push, charge, build, spell, compose, repeat, turn, worked, noted, storeIn, store, place, removeAt, remove, tallyAt, tally, contextOf, enter, inline, kept, call, does, affected}
-use Rattle.tokens.proofs.Cond.{both}
+use Rattle.numbers.proofs.Cond.{both}
 
 -- P of what a literal leads to, where it does not fail
 abbrev pub OnSome : {A : Type 0} → (A → Type 0) → Option A → Type 0

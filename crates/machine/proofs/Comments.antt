@@ -1,4 +1,4 @@
--- Tokens at the ends of what is read: past the input, after comments (`solid` is where they end), in two bytes. Assumes nothing.
+-- Tokens at the ends of what is read: after comments (`solid` is where they end), in two bytes. Assumes nothing.
 use Prim.Native.Nat.{ℕ, zero, suc, _+_, _*_, _%_, _<_, _≤_}
 use native.Mathlib.Nat.{mod-lt}
 use native.Mathlib.Omega.{arith}
@@ -6,28 +6,24 @@ use mathlib.Core.Path.{_≡_, refl}
 use mathlib.Core.List.{List}
 use lib.Dec.{ltb, lit<}
 use lib.ListN.{length, getD}
-use borrow.Author.Tests.{le-ltb}
 use Rattle.tokens.specs.declared.Read.{Read}
 use Rattle.tokens.specs.declared.Read.the-variants.{Number, Identifier, String, Operator, Comment, Unread}
 use Rattle.tokens.specs.declared.Refusal.the-variants.{CutOff}
 use Rattle.tokens.specs.Joined.{Joined, whole, cutAt, joinedAt}
 use Rattle.tokens.specs.Token.{sequence, pair, tokenOf, tokenAt}
-use Rattle.tokens.proofs.Cond.{either}
+use Rattle.numbers.proofs.Cond.{either}
+use Rattle.tokens.proofs.Theorems.{token-end}
 use Rattle.machine.specs.Skeleton.{pastComment, solidFrom, solid}
-use Rattle.machine.proofs.TokenLocal.{judged-all, token-beyond}
+use Rattle.machine.proofs.Inside.{token-inside}
+use Rattle.machine.proofs.TokenLocal.{judged-all}
 
 -- nothing holds where 0 is 1
 pub never : {X : Type 0} → _≡_ {A = ℕ} 0 1 → X
 never e = absurd (omega arith)
 
--- past the end there is no token
-pub token-end : (s : List ℕ) (at : ℕ) → length s ≤ at → tokenAt s at ≡ Unread CutOff at
-unfolding tokenAt
-token-end s at h = rw (le-ltb at (length s) h)
-
 -- an operator that is read ends past its place, inside the input
 pub operator-beyond : (s : List ℕ) (at n next : ℕ) → tokenAt s at ≡ Operator n next → (at < next) × (next ≤ length s)
-operator-beyond s at n next e = rw e at (token-beyond s at)
+operator-beyond s at n next e = rw e at (token-inside s at)
 
 -- ---- comments
 
@@ -47,7 +43,7 @@ pub data Comments (s : List ℕ) : ℕ → ℕ → Type 0 where
 pub comments-later : (s : List ℕ) (at q : ℕ) → Comments s at q → at ≤ q
 comments-later s at q (none-at h) = omega arith
 comments-later s at q (one-at {next = next} h c) =
-    let g : (at < next) × (next ≤ length s) = rw h at (token-beyond s at) in
+    let g : (at < next) × (next ≤ length s) = rw h at (token-inside s at) in
     omega (arith, comments-later s next q c, g .0)
 
 -- a comment, or none
@@ -59,7 +55,7 @@ by-comment (Operator n next) f g = g tt
 by-comment (Comment next) f g = f next refl
 by-comment (Unread refusal place) f g = g tt
 
-stays : (t : Read) (at : ℕ) (rest : ℕ → ℕ) → NoComment t → pastComment t at rest ≡ at
+pub stays : (t : Read) (at : ℕ) (rest : ℕ → ℕ) → NoComment t → pastComment t at rest ≡ at
 unfolding pastComment
 stays (Number value next) at rest h = refl
 stays (Identifier len next) at rest h = refl
@@ -75,7 +71,7 @@ from-comments zero s at q l (none-at h) = refl
 from-comments zero s at q l (one-at h c) = never (cc (token-end s at (omega arith)))
 from-comments (suc k) s at q l (none-at h) = stays (tokenAt s at) at (solidFrom k s) h
 from-comments (suc k) s at q l (one-at {next = next} h c) =
-    let g : (at < next) × (next ≤ length s) = rw h at (token-beyond s at) in
+    let g : (at < next) × (next ≤ length s) = rw h at (token-inside s at) in
     rw h (from-comments k s next q (omega (arith, g .0)) c)
 
 comments-from : (k : ℕ) (s : List ℕ) (at : ℕ) → length s ≤ at + k → Comments s at (solidFrom k s at)
@@ -83,7 +79,7 @@ unfolding solidFrom pastComment
 comments-from zero s at l = none-at {at = at} (rw (token-end s at (omega arith)) tt)
 comments-from (suc k) s at l =
     by-comment (tokenAt s at)
-    (λ next e. let g : (at < next) × (next ≤ length s) = rw e at (token-beyond s at) in one-at e (rw e (comments-from k s next (omega (arith, g .0)))))
+    (λ next e. let g : (at < next) × (next ≤ length s) = rw e at (token-inside s at) in one-at e (rw e (comments-from k s next (omega (arith, g .0)))))
     (λ h. rw (stays (tokenAt s at) at (solidFrom k s) h) (none-at h))
 
 pub solid-is : (s : List ℕ) (at q : ℕ) → Comments s at q → solid s at ≡ q

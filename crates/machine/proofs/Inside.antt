@@ -8,9 +8,8 @@ use lib.Dec.{eqb}
 use lib.ListN.{length}
 use Rattle.tokens.specs.declared.Read.{Read}
 use Rattle.tokens.specs.declared.Read.the-variants.{Number, Identifier, String, Operator, Comment, Unread}
-use Rattle.tokens.specs.declared.Rule.the-variants as rule
 use Rattle.tokens.specs.Token.{tokenAt}
-use Rattle.tokens.proofs.Cond.{either}
+use Rattle.numbers.proofs.Cond.{either}
 use Rattle.tokens.proofs.Told.{Tells, Text, Spans}
 use Rattle.tokens.proofs.Theorems.{token-tells-all}
 use Rattle.machine.specs.declared.Role.{Role}
@@ -22,7 +21,7 @@ use Rattle.machine.specs.declared.Passed.the-variants.{On, Closed, Bad}
 use Rattle.machine.specs.declared.Literal.{Literal}
 use Rattle.machine.specs.declared.Literal.the-variants as literal
 use Rattle.machine.specs.Limits.{mostOpen}
-use Rattle.machine.specs.Skeleton.{opening, roleOf, pastComment, solidFrom, solid, follow, andThen, held, passing, literalBy, dueBy, due, literalsFrom, bodyAt}
+use Rattle.machine.specs.Skeleton.{opening, roleOf, pastComment, solidFrom, solid, follow, andThen, held, passing, literalBy, dueBy, due, literalsFrom, bodyAt, literalAt}
 use Rattle.machine.specs.Literal.{nothingAt, holdingBy, holdingAt, operatorBy, foundBy, foundAt}
 
 -- ---- a token
@@ -143,7 +142,7 @@ pub body-inside : (k : ℕ) (s : List ℕ) (at : ℕ) → WentIn (length s) (sol
 unfolding bodyAt
 body-inside zero s at = follow-inside (length s) _ (solid s at) (due opening s at) _ (due-inside opening s at) (λ p h. tt)
 body-inside (suc k) s at =
-    let rest : ℕ → Went = literalsFrom (length s) (λ p. literalBy p (bodyAt k s) (tokenAt s p)) in
+    let rest : ℕ → Went = literalsFrom (length s) (literalAt k s) in
     follow-inside (length s) _ (solid s at) (due opening s at) rest (due-inside opening s at)
     (λ p h. went-lower (length s) (solid s at + 1) p (rest p) (omega arith)
     (literals-of s (bodyAt k s) (λ r. went-lower (length s) r (solid s r + 1) (bodyAt k s r) (omega (arith, solid-past s r)) (body-inside k s r)) p))
@@ -152,7 +151,7 @@ body-inside (suc k) s at =
 pub body-later : (k : ℕ) (s : List ℕ) (at : ℕ) → WentIn (length s) at (bodyAt k s at)
 body-later k s at = went-lower (length s) at (solid s at + 1) (bodyAt k s at) (omega (arith, solid-past s at)) (body-inside k s at)
 
-pub literal-later : (k : ℕ) (s : List ℕ) (at : ℕ) → PassedIn (length s) at (literalBy at (bodyAt k s) (tokenAt s at))
+pub literal-later : (k : ℕ) (s : List ℕ) (at : ℕ) → PassedIn (length s) at (literalAt k s at)
 literal-later k s at = literal-inside (length s) at (bodyAt k s) (body-later k s) (tokenAt s at) (token-inside s at)
 
 -- ---- the literal at a place

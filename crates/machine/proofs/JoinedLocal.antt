@@ -4,16 +4,17 @@ use Prim.Native.Nat.{ℕ, zero, suc, _+_, _-_, _<_, _≤_}
 use native.Mathlib.Omega.{arith}
 use mathlib.Core.Path.{_≡_, refl, sym, ap, _∙_}
 use mathlib.Core.Bool.{true, false}
-use mathlib.Core.List.{List, [], _∷_, _++_}
+use mathlib.Core.List.{List, _++_}
 use lib.Dec.{leb}
-use lib.ListN.{length, getD, take, drop}
-use lib.Seq.{slice, length-slice, getD-drop, getD-take, take-take, take-nil, drop-drop}
+use lib.ListN.{length, getD, take}
+use lib.Seq.{slice, length-slice, getD-drop, getD-take, take-take, drop-drop}
 use Rattle.tokens.specs.declared.Piece.{Piece}
 use Rattle.tokens.specs.declared.Piece.the-variants.{Data, Missing}
 use Rattle.tokens.specs.Bytes.{valueOf}
 use Rattle.tokens.specs.Joined.{Joined, whole, cutAt, lengthBytes, within, pieceAt, continued, onPiece, joinedFrom, joinedAt}
-use Rattle.tokens.proofs.Cond.{either, by-test, split}
+use Rattle.numbers.proofs.Cond.{either, by-test, split}
 use Rattle.tokens.proofs.Pieces.{length-bounds, within-data, piece-is, inside, Inside, joined-data, joined-missing}
+use Rattle.tokens.proofs.Summaries.{take-drop}
 use Rattle.tokens.proofs.Turns.{at-end, turn}
 
 -- ---- a slice
@@ -25,17 +26,12 @@ pub record View (s : List ℕ) (a e : ℕ) (b : List ℕ) : Type 0 where
   pub byte : (i x : ℕ) → x ≡ a + i → x < e → getD b i 0 ≡ getD s x 0
   pub part : (f t x y : ℕ) → x ≡ a + f → y ≡ a + t → y ≤ e → slice f t b ≡ slice x y s
 
-take-drop : (a t : ℕ) (l : List ℕ) → take t (drop a l) ≡ drop a (take (a + t) l)
-take-drop zero t l = let z : 0 + t ≡ t = omega arith in rw z
-take-drop (suc a) t [] = rw (take-nil, take-nil)
-take-drop (suc a) t (x ∷ l) = let z : suc a + t ≡ suc (a + t) = omega arith in rw z (take-drop a t l)
-
 pub view : (s : List ℕ) (a e : ℕ) → e ≤ length s → View s a e (slice a e s)
 view s a e h = record {
   inside = h;
   size = length-slice a e s h;
   byte = λ i x p l. rw (p, getD-drop a (take e s) i 0, getD-take e s (a + i) 0 (omega arith));
-  part = λ f t x y p q l. rw (p, q, take-drop a t (take e s), take-take (a + t) e s (omega arith), drop-drop f a (take (a + t) s));
+  part = λ f t x y p q l. rw (p, q, take-drop t a (take e s), take-take (a + t) e s (omega arith), drop-drop f a (take (a + t) s));
 }
 
 -- ---- pieces and joined data

@@ -22,7 +22,7 @@ use Rattle.machine.proofs.Throughout.{Pointing, All, Throughout, above-
 use Rattle.machine.proofs.Held.{Claim}
 use Rattle.machine.proofs.HeldRuns.{Passes}
 use Rattle.machine.proofs.Moments.{moment-held}
-use Rattle.tokens.proofs.Cond.{both, both-are}
+use Rattle.numbers.proofs.Cond.{both, both-are}
 
 -- ---- the claim
 

@@ -27,5 +27,5 @@ pub mod Skeletons
 pub mod Verdicts
 pub mod RowsKept
 pub mod SamePage
-pub mod CaseTable
+pub mod AllCases
 pub mod Theorems

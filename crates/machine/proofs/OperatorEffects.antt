@@ -9,7 +9,7 @@ use lib.Dec.{eqb}
 use Rattle.numbers.specs.declared.Number as num
 use Rattle.numbers.specs.declared.Answer.{Answer}
 use Rattle.numbers.specs.declared.Answer.the-variants.{Is, TooLarge, ByZero}
-use Rattle.tokens.proofs.Cond.{either}
+use Rattle.numbers.proofs.Cond.{either}
 use Rattle.machine.specs.declared.Value.{Value}
 use Rattle.machine.specs.declared.Value.the-variants.{Number, Identifier, Vector, Operator}
 use Rattle.machine.specs.declared.Literal.{Literal}

@@ -12,7 +12,7 @@ use Rattle.tokens.specs.declared.Read.{Read}
 use Rattle.tokens.specs.declared.Read.the-variants as read
 use Rattle.tokens.specs.Format.{header, starts}
 use Rattle.tokens.specs.Token.{tokenAt}
-use Rattle.tokens.proofs.Cond.{either}
+use Rattle.numbers.proofs.Cond.{either}
 use Rattle.machine.specs.declared.Role.the-variants as role
 use Rattle.machine.specs.declared.Went.{Went}
 use Rattle.machine.specs.declared.Went.the-variants.{Past, Stop}
@@ -23,8 +23,9 @@ use Rattle.machine.specs.Skeleton.{beginning, ending, opening, closing, 
 use Rattle.machine.specs.Literal.{Found, found, holdingBy, holdingAt, operatorBy, foundBy, foundAt}
 use Rattle.machine.proofs.Throughout.{All, all-append}
 use Rattle.machine.proofs.JoinedLocal.{View, view}
-use Rattle.machine.proofs.Comments.{never, token-end, operator-beyond, two-bytes, NoComment, none-at, one-at, solid-is, comments-are}
-use Rattle.machine.proofs.Bodies.{Passing, figure, name, text, comment, plain, holding, Passes, stop, more, passing-later, passes-later, parts-of, no-body, body-later, body-long}
+use Rattle.tokens.proofs.Theorems.{token-end}
+use Rattle.machine.proofs.Comments.{never, operator-beyond, two-bytes, NoComment, none-at, one-at, solid-is, comments-are}
+use Rattle.machine.proofs.Bodies.{Passing, figure, name, text, comment, plain, holding, Passes, stop, more, passing-later, passes-later, parts-of, no-body, body-long}
 use Rattle.machine.proofs.BodyLocal.{body-more, literals-in}
 
 -- ---- what it says
@@ -64,7 +65,7 @@ module _ (b : List ℕ) where
     readable-from at end c (more {next = next} p q) = by-literal p (readable-from next end c q)
       where
         l : at < end
-        l = omega (arith, passing-later b k (body-later k b) at next p .0, passes-later b k (body-later k b) next end q)
+        l = omega (arith, passing-later b k at next p .0, passes-later b k next end q)
 
         by-literal : Passing b k at next → Readable b (solid b next) end → Readable b (solid b at) end
         by-literal (figure value e) r = here at next end (Figure value) (rw e tt) (rw e) l (a-number value next e) (λ n start len z. never (cc)) r
@@ -83,7 +84,7 @@ module _ (b : List ℕ) where
   inside-readable (suc k) few at next h =
       let p = parts-of k b at next h in
       let z : next ≡ p .ends + 2 = two-bytes b (p .ends) closing next (lit≤ tt) (p .closes) in
-      let l : p .begins + 2 ≤ p .ends = passes-later b k (body-later k b) (p .begins + 2) (p .ends) (p .literals) in
+      let l : p .begins + 2 ≤ p .ends = passes-later b k (p .begins + 2) (p .ends) (p .literals) in
       let y : p .begins + 2 + (next - 2 - (p .begins + 2)) ≡ p .ends = omega arith in
       rw (solid-is b at (p .begins) (p .comments), y) (readable-from k (omega arith) (inside-readable k (omega arith)) (p .begins + 2) (p .ends) (rw (p .closes) tt) (p .literals))
 

@@ -1,7 +1,7 @@
 -- The theorems of `load`, `run` and `reprint`, over their promises, and of every moment of a run. In order: one answer; what a refusal
 -- leaves; the same page; a page reprinted; the rest of rows; load, then run; moments; cases. `bodiesIn s` are the bytes of the master's
--- bodies, the preamble's first. Work: Verdicts, RowsKept, SamePage; Guarded, WithinLimits, Kept, Moments; CaseTable. Assumes nothing.
-use Prim.Native.Nat.{ℕ, _+_, _*_, _≤_, _<_, suc}
+-- bodies, the preamble's first. Work: Verdicts, RowsKept, SamePage; Guarded, WithinLimits, Kept, Moments; AllCases. Assumes nothing.
+use Prim.Native.Nat.{ℕ, _+_, _*_, _≤_, _<_, zero, suc}
 use mathlib.Core.Path.{_≡_, sym, _∙_, refl}
 use mathlib.Core.Logic.{_≢_, _⊎_}
 use mathlib.Core.List.{List, [], _∷_}
@@ -26,12 +26,15 @@ use Rattle.machine.specs.Isolation.{codeAt, startAt, moment, member, Pro
 use Rattle.machine.proofs.Guarded.{moments-protected}
 use Rattle.machine.proofs.Moments.{start-good, moment-bounded}
 use Rattle.machine.proofs.Kept.{Sound, moment-sound, top-kept, second-kept}
-use Rattle.machine.specs.Page.{preambleOf, pageEnd, bodiesOf}
-use Rattle.machine.specs.Cases.{cases, failures}
-use Rattle.machine.proofs.CaseTable.{no-failures}
+use Rattle.machine.specs.Page.{resultOf, preambleEnd, pageStart, pageEnd, preambleResult, pageResult, bodiesOf, resultAt}
+use Rattle.numbers.specs.Each.{Each}
+use Rattle.machine.specs.Cases.{cases, Holds}
+use Rattle.machine.specs.Masters.{masters, RunsWhole}
+use Rattle.machine.proofs.AllCases.{all-hold}
 use Rattle.machine.proofs.Literals.{LiteralDue, literal-due}
 use Rattle.machine.specs.Skeleton.{Span, sound, skeletonOf}
-use Rattle.machine.specs.Step.{ended}
+use Rattle.machine.specs.Contexts.{settle}
+use Rattle.machine.specs.Step.{ended, begin}
 
 -- ---- one answer
 
@@ -172,11 +175,17 @@ pub literals-due : (s : List ℕ) (spans : List Span) → skeletonOf s ≡ sound
     → LiteralDue (codeAt (bodiesOf s spans) n) (moment allowance (bodiesOf s spans) n i)
 literals-due = literal-due
 
--- THEOREM (demand 2). A page's result is that of the moment when its allowance is used up.
-pub end-is-moment : (allowance : ℕ) (bodies : List (List ℕ)) (n : ℕ) → pageEnd allowance (preambleOf bodies) (getD bodies (suc n) []) ≡ moment allowance bodies (suc n) allowance
-unfolding pageEnd moment codeAt startAt
-end-is-moment allowance bodies n = refl
+-- THEOREM (demand 2). A result, the preamble's too, is that of the moment when the allowance is used up.
+pub end-is-moment : (allowance : ℕ) (bodies : List (List ℕ)) (n : ℕ)
+    → resultAt allowance bodies n ≡ resultOf (length (startAt allowance bodies n .cells)) (moment allowance bodies n allowance)
+unfolding resultAt preambleResult pageResult preambleEnd pageEnd moment codeAt startAt pageStart begin settle
+end-is-moment allowance bodies zero = refl
+end-is-moment allowance bodies (suc n) = refl
 
--- THEOREM (demand 2). The P cases of 01 that run, and their neighbours: none fails.
-pub cases-hold : failures 0 cases ≡ []
-cases-hold = no-failures
+-- THEOREM (demand 2). The P cases of 01 that run, and their neighbours.
+pub cases-hold : Each Holds cases
+cases-hold = all-hold .0
+
+-- THEOREM (demand 2). Whole masters: the answer of `load` and of `run`, and the rows.
+pub masters-hold : Each RunsWhole masters
+masters-hold = all-hold .1

@@ -22,8 +22,9 @@ use Rattle.tokens.specs.Format.{bias}
 use Rattle.tokens.specs.Text.{every, isName}
 use Rattle.tokens.specs.Joined.{Joined, whole, cutAt, joinedAt}
 use Rattle.tokens.specs.Token.{numberRead, integerSize, rationalSize, judged, sequence, pair, tokenOf, tokenAt}
-use Rattle.tokens.proofs.Cond.{either}
+use Rattle.numbers.proofs.Cond.{either}
 use Rattle.tokens.proofs.Ends.{Ends, joined-ends}
+use Rattle.machine.proofs.Inside.{EndsIn, token-inside}
 use Rattle.machine.proofs.JoinedLocal.{View, view, joined-in}
 
 -- the token with its places counted from a
@@ -79,42 +80,11 @@ judged-all P k at d next none number name text comment =
 judged-ends : (e k at : ℕ) (d : List ℕ) (next : ℕ) → EndsBy e (judged k at d next) → next ≤ e
 judged-ends e k at d next = judged-all (λ t. EndsBy e t → next ≤ e) k at d next (λ w h. absurd h) (λ value h. h) (λ n h. h) (λ n h. h) (λ h. h)
 
--- a token that is read ends past its place, inside the input
-abbrev pub Beyond : ℕ → ℕ → Read → Type 0
-Beyond n at (Number value next) = (at < next) × (next ≤ n)
-Beyond n at (Identifier len next) = (at < next) × (next ≤ n)
-Beyond n at (String count next) = (at < next) × (next ≤ n)
-Beyond n at (Operator m next) = (at < next) × (next ≤ n)
-Beyond n at (Comment next) = (at < next) × (next ≤ n)
-Beyond n at (Unread refusal place) = Unit
-
-pub token-beyond : (s : List ℕ) (at : ℕ) → Beyond (length s) at (tokenAt s at)
-unfolding tokenAt tokenOf sequence
-token-beyond s at = either P (ltb at (length s)) _ _ (λ i. by-first (ltb-true at (length s) i)) (λ _. tt)
-  where
-    P : Read → Type 0
-    P = Beyond (length s) at
-
-    two : (t : Read) → (at + 2 ≤ length s → P t) → P (pair s at t)
-    two t f = either P (ltb (at + 1) (length s)) t (Unread CutOff at) (λ i. f (omega (arith, ltb-true (at + 1) (length s) i))) (λ _. tt)
-
-    by-joined : (k : ℕ) (J : Joined) → Ends (length s) at J → P (sequence k at J)
-    by-joined k (whole d next) h =
-        let g : (at < next) × (next ≤ length s) = (omega (arith, h .0), h .1) in
-        judged-all P k at d next (λ w. tt) (λ value. g) (λ n. g) (λ n. g) g
-    by-joined k (cutAt place) h = tt
-
-    by-first : at < length s → P (tokenOf s at (getD s at 0) (getD s (at + 1) 0))
-    by-first i =
-        either P (ltb (getD s at 0) 128) _ _ (λ _. two _ (λ h. (omega arith, h)))
-        (λ _. either P (ltb (getD s at 0) 160) _ _ (λ _. (omega arith, omega arith))
-        (λ _. either P (ltb (getD s at 0) 192) _ _ (λ _. two _ (λ h. (omega arith, h))) (λ _. by-joined _ (joinedAt s at) (joined-ends s at i))))
-
--- so a token that ends by e begins before it
+-- a token that ends by e begins before it
 pub begins-before : (s : List ℕ) (at e : ℕ) → EndsBy e (tokenAt s at) → at < e
-begins-before s at e = by-token (tokenAt s at) (token-beyond s at)
+begins-before s at e = by-token (tokenAt s at) (token-inside s at)
   where
-    by-token : (t : Read) → Beyond (length s) at t → EndsBy e t → at < e
+    by-token : (t : Read) → EndsIn (length s) at t → EndsBy e t → at < e
     by-token (Number value next) g h = omega (arith, g .0)
     by-token (Identifier len next) g h = omega (arith, g .0)
     by-token (String count next) g h = omega (arith, g .0)

@@ -15,7 +15,7 @@ use Rattle.tokens.specs.declared.Refusal.the-variants.{TooLong, TableTooShort, 
 use Rattle.tokens.specs.Refusal.{numberOf}
 use Rattle.tokens.specs.declared.Outcome.the-variants.{Done, Refused}
 use Rattle.tokens.specs.Format.{longest}
-use Rattle.tokens.proofs.Cond.{either, both, by-test}
+use Rattle.numbers.proofs.Cond.{either, both, by-test}
 use Rattle.machine.specs.Limits.{mostPages, mostSteps, scratchSize, rowsSize, sectionsSize}
 use Rattle.machine.specs.Skeleton.{Skeleton, sound, refused, skeletonOf}
 use Rattle.machine.specs.Step.{outcome}

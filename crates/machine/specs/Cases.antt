@@ -1,11 +1,10 @@
 -- Pages that are proved to run as 01 and the rulings say, as one table: the preamble's and the page's bytes, the allowance, the row and the
 -- stack. The first four are the P cases of 01. Above each stands the page in the notation of the rulings (a body operator before its body).
--- `failures` gives the number of each case that does not hold; proofs/CaseTable.antt proves that there is none. Assumes nothing.
-use Prim.Native.Nat.{ℕ, suc}
-use mathlib.Core.Bool.{Bool, true, false, cond, _&&_}
-use mathlib.Core.List.{List, [], _∷_, reverse}
-use lib.Dec.{eqb}
-use lib.IntN.{ℤ, pos, negsuc}
+-- proofs/AllCases.antt proves each. Assumes nothing.
+use Prim.Native.Nat.{ℕ}
+use mathlib.Core.Path.{_≡_}
+use mathlib.Core.List.{List, [], _∷_, _++_, reverse}
+use lib.IntN.{ℤ, pos}
 use Rattle.machine.specs.declared.Value.the-variants.{Number, Identifier, Vector, Operator}
 use Rattle.machine.specs.State.{Entry, val, mark}
 use Rattle.machine.specs.Page.{Row, pageResult, rowWords, allWords}
@@ -16,6 +15,12 @@ pub record Case : Type 0 where
   pub allowance : ℕ
   pub row : Row
   pub stack : List Entry
+
+-- the row, and the stack as a section lists it
+abbrev pub Holds : Case → Type 0
+Holds c =
+    let r = pageResult (c .allowance) (c .preamble) (c .page) in
+    rowWords (r .row) ++ allWords (reverse (r .stack)) ≡ rowWords (c .row) ++ allWords (c .stack)
 
 case : List ℕ → List ℕ → ℕ → ℕ → ℕ → ℕ → ℕ → List Entry → Case
 case pre page allowance outcome errors steps cells stack = record {
@@ -103,27 +108,3 @@ cases =
     -- 32. (MAKESIMPLECO { x MAKESIMPLECO { } } 0 FSET) 0 FGET DO: F (R27)
     ∷ case (160 ∷ 114 ∷ 160 ∷ 106 ∷ 197 ∷ 1 ∷ 120 ∷ 160 ∷ 114 ∷ 160 ∷ 106 ∷ 160 ∷ 107 ∷ 160 ∷ 107 ∷ 15 ∷ 160 ∷ 149 ∷ []) (15 ∷ 160 ∷ 148 ∷ 160 ∷ 231 ∷ []) 100000 1 0 5 50 (val (Identifier 0 4 1) ∷ val (Operator 0 11 0 50) ∷ [])
     ∷ []
-
--- ---- a case as a test
-
-unfoldable pub sameInteger : ℤ → ℤ → Bool
-sameInteger (pos a) (pos b) = eqb a b
-sameInteger (pos a) (negsuc b) = false
-sameInteger (negsuc a) (pos b) = false
-sameInteger (negsuc a) (negsuc b) = eqb a b
-
-unfoldable pub sameWords : List ℤ → List ℤ → Bool
-sameWords [] [] = true
-sameWords [] (b ∷ bs) = false
-sameWords (a ∷ l) [] = false
-sameWords (a ∷ l) (b ∷ m) = sameInteger a b && sameWords l m
-
-unfoldable pub holds : Case → Bool
-holds c =
-    let r = pageResult (c .allowance) (c .preamble) (c .page) in
-    sameWords (rowWords (r .row)) (rowWords (c .row)) && sameWords (allWords (reverse (r .stack))) (allWords (c .stack))
-
--- the numbers of those that do not hold, counted from n
-unfoldable pub failures : ℕ → List Case → List ℕ
-failures n [] = []
-failures n (c ∷ cs) = cond (holds c) (failures (suc n) cs) (n ∷ failures (suc n) cs)

@@ -12,3 +12,4 @@ pub mod Page
 pub mod Promise
 pub mod Isolation
 pub mod Cases
+pub mod Masters

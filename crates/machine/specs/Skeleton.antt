@@ -128,6 +128,10 @@ unfoldable pub bodyAt : ℕ → List ℕ → ℕ → Went
 bodyAt zero s at = follow (due opening s at) (λ next. Stop TooDeep (solid s at))
 bodyAt (suc k) s at = follow (due opening s at) (literalsFrom (length s) (λ p. literalBy p (bodyAt k s) (tokenAt s p)))
 
+-- the literal, or the comment, at `at` of a body in which k more bodies may be open
+abbrev pub literalAt : ℕ → List ℕ → ℕ → Passed
+literalAt k s at = literalBy at (bodyAt k s) (tokenAt s at)
+
 -- ---- the master
 
 -- a body that the engine runs: just after its `{`, and the bytes before its `}`

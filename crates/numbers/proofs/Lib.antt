@@ -1,4 +1,5 @@
 -- The laws, lowest first, and the theorems that cite them. Assumes nothing.
+pub mod Cond
 pub mod Divisor
 pub mod Signs
 pub mod Machine

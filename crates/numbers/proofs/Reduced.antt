@@ -1,7 +1,7 @@
 -- What the answered quotients are. In order: every whole number has a sign and a size; of a quotient that is answered, that it is
 -- a number and that it is n / d; a number is the quotient of its parts; an operation's answer is a quotient, or none. Assumes nothing.
 use mathlib.Core.Path.{_≡_, refl, sym, ap, _∙_}
-use mathlib.Core.Bool.{Bool, true, false, xor, cond, _&&_, false≢true}
+use mathlib.Core.Bool.{Bool, true, false, xor, cond, _&&_}
 use mathlib.Core.Logic.{⊎-elim}
 use Prim.Native.Nat.{ℕ, zero, suc, _*_, _/_, _<_, _≤_}
 use native.Mathlib.Nat.{eq-zero-or-pos, div-one, zero-mul, mul-assoc, mul-right-comm}
@@ -16,6 +16,7 @@ use Rattle.numbers.specs.Gcd.{gcdOf}
 use Rattle.numbers.specs.Whole.{signed, signedBy}
 use Rattle.numbers.specs.Fraction.{most, limited, ratioOf, isFraction, isNumber}
 use Rattle.numbers.specs.Arith.{over, common, wholeFrom, lessTimes}
+use Rattle.numbers.proofs.Cond.{both}
 use Rattle.numbers.proofs.Divisor.{left-exact, right-exact, lowest-terms}
 use Rattle.numbers.proofs.Signs.{abs-signed, signed-mul, unlike-last}
 use Rattle.numbers.proofs.Limits.{ratio-by-zero, ratio-signed}
@@ -28,10 +29,6 @@ signed-is : (z : ℤ) → z ≡ signed (below z) (natAbs z)
 unfolding signed below
 signed-is (pos n) = refl
 signed-is (negsuc n) = refl
-
-both : (s t : Bool) → s && t ≡ true → (s ≡ true) × (t ≡ true)
-both true t e = (refl, e)
-both false t e = absurd (false≢true e)
 
 kept : (t : Bool) (x a : Number) → cond t (Is x) TooLarge ≡ Is a → (t ≡ true) × (x ≡ a)
 kept true x a e = (refl, cc)

@@ -2,13 +2,13 @@
 -- down; numbers and quotients; the operations' answers; worked values. Assumes nothing.
 use mathlib.Core.Path.{_≡_, refl}
 use mathlib.Core.Bool.{true}
-use mathlib.Core.List.{map}
 use Prim.Native.Nat.{ℕ, _*_, _<_}
 use lib.IntN.{ℤ, pos, _+ℤ_, _*ℤ_}
 use lib.Signed.{_≤ℤ_, _<ℤ_}
 use Rattle.numbers.specs.declared.Number.{Number}
 use Rattle.numbers.specs.declared.Answer.{Answer}
 use Rattle.numbers.specs.declared.Answer.the-variants.{Is}
+use Rattle.numbers.specs.Each.{Each, _&_}
 use Rattle.numbers.specs.Gcd.{gcdTurns, gcdOf}
 use Rattle.numbers.specs.Whole.{signedBy, floorBy, floorQuotient, truncQuotient}
 use Rattle.numbers.specs.Fraction.{limited, ratioOf, isNumber}
@@ -62,6 +62,8 @@ answers-number a b =
     (r _ _, r _ _, r _ _, r _ _, rest-number a b _, rest-number a b _, r _ _, r _ _, w _, w _, w _, w _)
 
 -- the worked values hold
-pub cases-hold : map (λ (c : Case). c .computed) cases ≡ map (λ (c : Case). c .answer) cases
+pub cases-hold : Each (λ (c : Case). c .computed ≡ c .answer) cases
 unfolding sumOf quotientOf wholeFrom floorOf ceilingOf truncOf roundOf lessTimes modOf remOf ratioOf limited gcdOf gcdTurns signedBy floorBy floorQuotient truncQuotient
-cases-hold = refl
+cases-hold =
+    refl & refl & refl & refl & refl & refl & refl & refl & refl & refl
+    & refl & refl & refl & tt

@@ -1,4 +1,5 @@
 -- The definitions, lowest first, and worked values of them. Assumes nothing.
+pub mod Each
 pub mod Gcd
 pub mod Whole
 pub mod Fraction

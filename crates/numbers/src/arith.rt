@@ -107,7 +107,8 @@ pub fn floor(a: Number) -> Answer
 pub fn ceiling(a: Number) -> Answer
     ensures { λ r. ⌜ r ≡ ceilingOf a ⌝ }
 {
-    let down = wholes::rounded_down(wholes::negated(numerator(a)), a.den as u64);
+    let den = a.den as u64;
+    let down = wholes::rounded_down(wholes::negated(numerator(a)), den);
     whole_from(a, wholes::negated(down))
 }
 
@@ -115,7 +116,8 @@ pub fn ceiling(a: Number) -> Answer
 pub fn trunc(a: Number) -> Answer
     ensures { λ r. ⌜ r ≡ truncOf a ⌝ }
 {
-    whole_from(a, wholes::cut_off(numerator(a), a.den as u64))
+    let den = a.den as u64;
+    whole_from(a, wholes::cut_off(numerator(a), den))
 }
 
 // ROUND: the floor of a + 1/2, which is (2 n + d) / 2 d.

@@ -5,16 +5,14 @@ use Prim.Native.Nat.{ℕ, zero, suc, _+_, _-_, _<_, _≤_}
 use native.Mathlib.Omega.{arith}
 use lib.ListN.{length}
 use Rattle.tokens.specs.declared.Read.{Read}
-use Rattle.tokens.specs.declared.Read.the-variants.{Number, Identifier, String, Operator, Comment, Unread}
 use Rattle.tokens.specs.declared.Refusal.{Refusal}
 use Rattle.tokens.specs.declared.Refusal.the-variants.{TooDeep}
 use Rattle.tokens.specs.Token.{tokenAt}
 use Rattle.tokens.proofs.Theorems.{token-end}
 use Rattle.machine.specs.declared.Went.{Went}
 use Rattle.machine.specs.declared.Went.the-variants.{Past, Stop}
-use Rattle.machine.specs.declared.Passed.{Passed}
-use Rattle.machine.specs.Skeleton.{opening, pastComment, solidFrom, solid, follow, andThen, dueBy, due, literalBy, literalsFrom, bodyAt}
-use Rattle.machine.proofs.Comments.{NoComment}
+use Rattle.machine.specs.Skeleton.{opening, pastComment, solidFrom, solid, follow, andThen, dueBy, due, literalBy, literalsFrom, bodyAt, literalAt}
+use Rattle.machine.proofs.Comments.{NoComment, stays}
 
 -- ---- comments
 
@@ -25,22 +23,9 @@ past (suc k) s p h = let e : suc k - 1 ≡ k = omega arith in rw e
 
 -- where no comment stands, the place is found
 pub stands : (k : ℕ) (s : List ℕ) (p at : ℕ) (t : Read) → length s ≤ p + k → solidFrom k s p ≡ solid s at → tokenAt s p ≡ t → NoComment t → p ≡ solid s at
-unfolding pastComment
-stands k s p at t h e f n = found t n (rw f at (sym (past k s p h) ∙ e))
-  where
-    found : (r : Read) → NoComment r → pastComment r p (solidFrom (k - 1) s) ≡ solid s at → p ≡ solid s at
-    found (Number value next) m g = g
-    found (Identifier len next) m g = g
-    found (String count next) m g = g
-    found (Operator o next) m g = g
-    found (Comment next) m g = absurd m
-    found (Unread refusal place) m g = g
+stands k s p at t h e f n = sym (stays t p (solidFrom (k - 1) s) n) ∙ (rw f at (sym (past k s p h) ∙ e))
 
 -- ---- the literals of a body
-
--- the literal of a body in which m more may be open
-abbrev pub literalAt : ℕ → List ℕ → ℕ → Passed
-literalAt m s p = literalBy p (bodyAt m s) (tokenAt s p)
 
 -- one turn, where there is room for k literals and that is enough for what is left
 pub turn : (m k : ℕ) (s : List ℕ) (p : ℕ) → length s ≤ p + k → literalsFrom k (literalAt m s) p ≡ andThen (literalAt m s p) (literalsFrom (k - 1) (literalAt m s))
@@ -48,9 +33,9 @@ unfolding literalsFrom literalBy andThen
 turn m zero s p h = rw (token-end s p (omega arith))
 turn m (suc k) s p h = let e : suc k - 1 ≡ k = omega arith in rw e
 
-pub due-is : (n : ℕ) (s : List ℕ) (at q : ℕ) (w : Went) → q ≡ solid s at → w ≡ dueBy n q (tokenAt s q) → due n s at ≡ w
+pub due-there : (n : ℕ) (s : List ℕ) (at q : ℕ) (w : Went) → q ≡ solid s at → w ≡ dueBy n q (tokenAt s q) → due n s at ≡ w
 unfolding due
-due-is n s at q w e f = rw (f, e)
+due-there n s at q w e f = rw (f, e)
 
 pub stopped : (left : ℕ) (s : List ℕ) (at : ℕ) (w : Refusal) (place : ℕ) → due opening s at ≡ Stop w place → Stop w place ≡ bodyAt left s at
 unfolding bodyAt follow

@@ -15,7 +15,7 @@ use Rattle.tokens.specs.declared.Outcome.the-variants.{Done, Refused}
 use Rattle.tokens.specs.Format.{header, starts}
 use Rattle.tokens.specs.Token.{tokenAt}
 use Rattle.tokens.proofs.Theorems.{token-end}
-use Rattle.tokens.proofs.Cond.{either}
+use Rattle.numbers.proofs.Cond.{either}
 use Rattle.machine.specs.declared.Went.{Went}
 use Rattle.machine.specs.declared.Went.the-variants.{Past, Stop}
 use Rattle.machine.specs.Limits.{mostOpen, mostPages}

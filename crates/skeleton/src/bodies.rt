@@ -3,7 +3,7 @@ ghost use mathlib.Core.Path.{_≡_};
 ghost use Rattle.tokens.specs.declared.Refusal.the-variants.{NotAllowed};
 ghost use Rattle.tokens.specs.Token.{tokenAt};
 ghost use Rattle.machine.specs.declared.Went.the-variants.{Stop};
-ghost use Rattle.machine.specs.Skeleton.{solid, dueBy, due, literalBy, bodyAt};
+ghost use Rattle.machine.specs.Skeleton.{solid, dueBy, due, bodyAt, literalAt};
 use crate::roles;
 use machine::Passed;
 use machine::Role;
@@ -84,7 +84,7 @@ pub fn body(s: &[u8], at: usize, left: usize) -> Went
 {
     let q = past_comments(s, at);
     let mut p: usize;
-    match due_here(106, s, q) {
+    match due_here(roles::OPEN, s, q) {
         Went::Past { next } => {
             p = next;
         }
@@ -115,7 +115,7 @@ pub fn body(s: &[u8], at: usize, left: usize) -> Went
 
 // The literal, or the comment, at `at` of a body in which `left` more bodies may be open.
 fn literal(s: &[u8], at: usize, left: usize) -> Passed
-    ensures { λ r. ⌜ r ≡ literalBy at (bodyAt left (now (s .entry))) (tokenAt (now (s .entry)) at) ⌝ }
+    ensures { λ r. ⌜ r ≡ literalAt left (now (s .entry)) at ⌝ }
 {
     match tokens::reading::read_token(s, at) {
         Read::Operator { number, next } => match roles::role_of(number) {

@@ -1,5 +1,5 @@
 // The skeleton check of a master (document 01, Skeleton), and `load`. The definitions are those of `machine`.
-mod roles; // operators, to the skeleton
+pub mod roles; // operators, to the skeleton
 pub mod bodies; // bodies and literals, each by the other
 pub mod pages; // header, BEGIN, preamble, pages, END; load
 

@@ -3,27 +3,34 @@ ghost use mathlib.Core.Path.{_≡_};
 ghost use mathlib.Core.List.{[], _∷_};
 ghost use lib.ListN.{length};
 ghost use Rattle.tokens.specs.declared.Refusal.the-variants.{NotAllowed};
-ghost use Rattle.tokens.specs.declared.Outcome.the-variants.{Refused};
 ghost use Rattle.machine.specs.Skeleton.{Span, pagesFrom, preambleAt, skeletonOf};
 ghost use Rattle.machine.specs.Promise.{pagesIn, Loads};
 ghost use Rattle.skeleton.specs.declared.Turn.the-variants.{Halt};
 ghost use Rattle.skeleton.specs.Turns.{pageTurn, endTurn, turnAt};
 use crate::Turn;
 use crate::bodies;
+use crate::roles;
 use machine::Went;
 use tokens::Outcome;
 use tokens::Read;
+use tokens::refusals::refused;
+
+// The most pages.
+const MOST_PAGES: usize = 512;
+
+// The most bodies that may be open at once.
+const MOST_OPEN: usize = 16;
 
 fn page_turn(s: &[u8], had: usize, at: usize) -> Turn
     ensures { λ r. ⌜ r ≡ pageTurn (now (s .entry)) had at ⌝ }
 {
-    if 512 < had {
+    if MOST_PAGES < had {
         return Turn::Halt {
             refusal: tokens::Refusal::TooManyPages,
             place: at,
         };
     }
-    match bodies::body(s, at, 16) {
+    match bodies::body(s, at, MOST_OPEN) {
         Went::Past { next } => Turn::Page { next },
         Went::Stop { refusal, place } => Turn::Halt { refusal, place },
     }
@@ -57,10 +64,10 @@ pub fn turn(s: &[u8], had: usize, at: usize) -> Turn
 {
     match tokens::reading::read_token(s, at) {
         Read::Operator { number, next } => {
-            if number == 106 {
+            if number == roles::OPEN {
                 return page_turn(s, had, at);
             }
-            if number == 103 {
+            if number == roles::END {
                 return end_turn(s, next);
             }
             barred_turn(at)
@@ -71,12 +78,6 @@ pub fn turn(s: &[u8], had: usize, at: usize) -> Turn
         Read::String { count: _, next: _ } => barred_turn(at),
         Read::Unread { refusal, place } => Turn::Halt { refusal, place },
     }
-}
-
-fn refused(refusal: tokens::Refusal, place: usize) -> Outcome
-    ensures { λ r. ⌜ r ≡ Refused refusal place ⌝ }
-{
-    Outcome::Refused { refusal, place }
 }
 
 // Pages from `at` on, past the preamble, to the end: how many.
@@ -108,7 +109,7 @@ fn pages(s: &[u8], at: usize) -> Outcome
 fn preamble_on(s: &[u8], at: usize) -> Outcome
     ensures { λ r. ⌜ r ≡ pagesIn (preambleAt (now (s .entry)) at) ⌝ }
 {
-    match bodies::body(s, at, 16) {
+    match bodies::body(s, at, MOST_OPEN) {
         Went::Past { next } => pages(s, next),
         Went::Stop { refusal, place } => refused(refusal, place),
     }
@@ -117,10 +118,10 @@ fn preamble_on(s: &[u8], at: usize) -> Outcome
 fn check(s: &[u8]) -> Outcome
     ensures { λ r. ⌜ r ≡ pagesIn (skeletonOf (now (s .entry))) ⌝ }
 {
-    if !tokens::header::starts_with(b"Interpress/Xerox/3.0 ", s) {
+    if !tokens::header::begins(s) {
         return refused(tokens::Refusal::BadHeader, 0);
     }
-    match bodies::due_from(102, s, 21) {
+    match bodies::due_from(roles::BEGIN, s, 21) {
         Went::Past { next } => preamble_on(s, next),
         Went::Stop { refusal, place } => refused(refusal, place),
     }
@@ -130,7 +131,7 @@ fn check(s: &[u8]) -> Outcome
 pub fn load(s: &[u8]) -> Outcome
     ensures { λ r. ⌜ Loads (now (s .entry)) r ⌝ }
 {
-    if 16777215 < s.len() {
+    if tokens::header::LONGEST < s.len() {
         return refused(tokens::Refusal::TooLong, 0);
     }
     check(s)

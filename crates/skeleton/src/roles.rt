@@ -3,11 +3,22 @@ ghost use mathlib.Core.Path.{_≡_};
 ghost use Rattle.machine.specs.Skeleton.{oneOf, roleOf};
 use machine::Role;
 
+// Operators by number (000, appendix B).
+pub const BEGIN: u16 = 102;
+
+pub const END: u16 = 103;
+
+const CONTENT_INSTRUCTIONS: u16 = 105;
+
+pub const OPEN: u16 = 106; // {
+
+const CLOSE: u16 = 107; // }
+
 // CORRECT, MAKESIMPLECO, DOSAVESIMPLEBODY, IF, IFCOPY, IFELSE
 const HOLDERS: [u16; 6] = [110, 114, 120, 239, 240, 241];
 
 // BEGIN, END, CONTENTINSTRUCTIONS, and a `{` that no body operator stands before
-const BARRED: [u16; 4] = [102, 103, 105, 106];
+const BARRED: [u16; 4] = [BEGIN, END, CONTENT_INSTRUCTIONS, OPEN];
 
 // Whether n is one of the numbers of the list.
 fn one_of(list: &[u16], n: u16) -> bool
@@ -26,7 +37,7 @@ fn one_of(list: &[u16], n: u16) -> bool
 pub fn role_of(n: u16) -> Role
     ensures { λ r. ⌜ r ≡ roleOf n ⌝ }
 {
-    if n == 107 {
+    if n == CLOSE {
         return Role::Closes;
     }
     if one_of(&HOLDERS, n) {

@@ -10,7 +10,7 @@ use lib.Seq.{slice, getD-drop}
 use Rattle.tokens.specs.declared.Piece.{Piece}
 use Rattle.tokens.specs.declared.Piece.the-variants.{Data, Missing}
 use Rattle.tokens.specs.Joined.{Joined, whole, cutAt, pieceAt, continued, onPiece, joinedFrom, joinedAt}
-use Rattle.tokens.proofs.Cond.{either}
+use Rattle.numbers.proofs.Cond.{either}
 use Rattle.tokens.proofs.HighFirst.{Bytes}
 use Rattle.tokens.proofs.Pieces.{Inside, inside}
 use Rattle.tokens.proofs.Summaries.{part-length}

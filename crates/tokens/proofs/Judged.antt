@@ -19,7 +19,7 @@ use Rattle.tokens.specs.Text.{isName}
 use Rattle.tokens.specs.Joined.{Joined, whole, cutAt}
 use Rattle.tokens.specs.Token.{numberRead, integerSize, rationalSize, rationalIn, judged, sequence}
 use Rattle.tokens.specs.Inner.{ruleOf, roomOf, summaryOf, gatheredOf, rationalBy, judgedBy}
-use Rattle.tokens.proofs.Cond.{under, both, by-test}
+use Rattle.numbers.proofs.Cond.{under, both, by-test}
 use Rattle.tokens.proofs.HighFirst.{Bytes, halves}
 
 -- the value of at most eight bytes is that of the first eight

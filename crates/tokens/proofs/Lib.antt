@@ -1,4 +1,3 @@
-pub mod Cond
 pub mod HeaderTest
 pub mod Fields
 pub mod Signs

@@ -11,7 +11,7 @@ use Rattle.tokens.specs.declared.Piece.{Piece}
 use Rattle.tokens.specs.declared.Piece.the-variants.{Data, Missing}
 use Rattle.tokens.specs.Bytes.{valueAfter}
 use Rattle.tokens.specs.Joined.{cutAt, lengthBytes, within, pieceAt, onPiece, joinedFrom, joinedAt}
-use Rattle.tokens.proofs.Cond.{either}
+use Rattle.numbers.proofs.Cond.{either}
 
 pub length-bounds : (b : ℕ) → (1 ≤ lengthBytes b) × (lengthBytes b ≤ 3)
 length-bounds b = either (λ k. (1 ≤ k) × (k ≤ 3)) (ltb b 224) 1 3 (λ e. (omega arith, omega arith)) (λ e. (omega arith, omega arith))

@@ -1,6 +1,6 @@
 -- A rule for every byte of a text: one byte, then the rest; two parts. Assumes nothing.
-use mathlib.Core.Path.{_≡_, refl, ap, _∙_}
-use mathlib.Core.Bool.{Bool, true, false, _&&_}
+use mathlib.Core.Path.{_≡_, refl, sym, ap, _∙_}
+use mathlib.Core.Bool.{Bool, true, false, _&&_, and-assoc}
 use mathlib.Core.List.{List, [], _∷_, _++_}
 use Prim.Native.Nat.{ℕ, suc, _<_, _≤_}
 use lib.ListN.{length, getD}
@@ -8,6 +8,7 @@ use lib.Seq.{slice, slice-cons}
 use Rattle.tokens.specs.declared.Rule.{Rule}
 use Rattle.tokens.specs.declared.Rule.the-variants.{Anything}
 use Rattle.tokens.specs.Text.{obeys, every}
+use Rattle.numbers.proofs.Cond.{no-left}
 
 module _ (r : Rule) (s : List ℕ) (f t : ℕ) (h : f < t) (k : t ≤ length s) where
   first-byte : every r (slice f t s) ≡ obeys r (getD s f 0) && every r (slice (suc f) t s)
@@ -18,26 +19,12 @@ module _ (r : Rule) (s : List ℕ) (f t : ℕ) (h : f < t) (k : t ≤ length s) 
   every-next e = first-byte ∙ ap (λ (b : Bool). b && every r (slice (suc f) t s)) e
 
   pub every-stop : obeys r (getD s f 0) ≡ false → every r (slice f t s) ≡ false
-  every-stop e = first-byte ∙ ap (λ (b : Bool). b && every r (slice (suc f) t s)) e ∙ and-false (every r (slice (suc f) t s))
-    where
-      and-false : (b : Bool) → false && b ≡ false
-      and-false true = refl
-      and-false false = refl
-
-pub and-true : (b : Bool) → b && true ≡ b
-and-true true = refl
-and-true false = refl
-
-and-assoc : (a b c : Bool) → a && (b && c) ≡ (a && b) && c
-and-assoc true b c = refl
-and-assoc false true c = refl
-and-assoc false false true = refl
-and-assoc false false false = refl
+  every-stop e = first-byte ∙ no-left _ (every r (slice (suc f) t s)) e
 
 pub every-append : (r : Rule) (d e : List ℕ) → every r (d ++ e) ≡ every r d && every r e
 unfolding every
 every-append r [] e = refl
-every-append r (b ∷ d) e = ap (λ (t : Bool). obeys r b && t) (every-append r d e) ∙ and-assoc (obeys r b) (every r d) (every r e)
+every-append r (b ∷ d) e = ap (λ (t : Bool). obeys r b && t) (every-append r d e) ∙ sym (and-assoc (obeys r b) (every r d) (every r e))
 
 pub every-anything : (d : List ℕ) → every Anything d ≡ true
 unfolding every obeys

@@ -1,6 +1,6 @@
 -- Signed numbers at 64 bits, for code that stays far inside the range: differences, and the two arms of a sign extension.
 -- Assumes nothing.
-use mathlib.Core.Path.{_≡_, refl, _∙_}
+use mathlib.Core.Path.{_≡_, _∙_}
 use mathlib.Core.Bool.{Bool, true, false, cond}
 use Prim.Native.Nat.{ℕ, zero, suc, _+_, _-_, _*_, _^_, _%_, _<_, _≤_}
 use native.Mathlib.Omega.{arith}
@@ -8,7 +8,7 @@ use lib.Dec.{ltb}
 use lib.Pow.{pow-mono, shl-exact}
 use lib.Dec.{lit<}
 use native.Mathlib.Nat.{one-mul}
-use lib.IntN.{ℤ, pos, negsuc, natAbs, _-ℤ_}
+use lib.IntN.{pos, negsuc, natAbs, _-ℤ_}
 use lib.Signed.{mag}
 use mir.Syntax.{w64}
 use mir.Val.{SFits, toZ, ofZ}
@@ -16,6 +16,7 @@ use mir.Facts.{toZ-pos}
 use borrow.Author.Tests.{lt-ltb, le-ltb, ltb-true, ltb-false}
 use Rattle.tokens.specs.Bytes.{signedOf}
 use mir.ValLaws.{toZ-ofZ}
+use Rattle.numbers.proofs.Cond.{either}
 
 mag-either : (t : Bool) (x y k : ℕ) → x < k → y < k → mag (cond t (negsuc x) (pos y)) < k
 mag-either true x y k hx hy = hx
@@ -73,10 +74,6 @@ module _ (n v : ℕ) (hn : n ≤ 4) (hv : v < 2 ^ (8 * n)) where
 pub abs-diff : (a b : ℕ) → a < b → natAbs (pos a -ℤ pos b) ≡ b - a
 abs-diff a zero h = absurd (omega arith)
 abs-diff a (suc b) h = rw (lt-ltb a (suc b) h) (omega arith)
-
-either : (P : ℤ → Type 0) (t : Bool) (x y : ℤ) → (t ≡ true → P x) → (t ≡ false → P y) → P (cond t x y)
-either P true x y f g = f refl
-either P false x y f g = g refl
 
 -- an integer of up to four bytes is at most 2^31 in size
 pub signed-bound : (n v : ℕ) → n ≤ 4 → v < 2 ^ (8 * n) → natAbs (signedOf n v) ≤ 2 ^ 31

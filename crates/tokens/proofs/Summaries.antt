@@ -19,7 +19,7 @@ use Rattle.tokens.proofs.HighFirst.{value-append}
 
 -- ---- parts of a part
 
-take-drop : (n a : ℕ) (l : List ℕ) → take n (drop a l) ≡ drop a (take (a + n) l)
+pub take-drop : (n a : ℕ) (l : List ℕ) → take n (drop a l) ≡ drop a (take (a + n) l)
 take-drop n zero l = rw (zero-add n)
 take-drop n (suc a) [] = take-nil n ∙ sym (ap (drop (suc a)) (take-nil (suc a + n)) ∙ drop-nil (suc a))
 take-drop n (suc a) (x ∷ l) = let e : suc a + n ≡ suc (a + n) = omega arith in rw e (take-drop n a l)

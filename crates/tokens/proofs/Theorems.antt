@@ -1,10 +1,11 @@
 -- What a reader of the token layer may quote, and all that the layers above may use beside the definitions. In order: the reader's one
 -- answer; what a token says of itself; the proved bench cases. Work: Told.antt, Ends.antt. Assumes nothing.
 use mathlib.Core.Path.{_≡_, refl, sym, _∙_}
-use mathlib.Core.List.{List, map}
+use mathlib.Core.List.{List}
 use Prim.Native.Nat.{ℕ, _≤_}
 use lib.ListN.{length}
 use borrow.Author.Tests.{le-ltb}
+use Rattle.numbers.specs.Each.{Each, _&_}
 use Rattle.numbers.specs.Gcd.{gcdTurns, gcdOf}
 use Rattle.numbers.specs.Whole.{signedBy}
 use Rattle.numbers.specs.Fraction.{limited, ratioOf}
@@ -45,6 +46,9 @@ unfolding tokenAt
 token-end s at h = rw (le-ltb at (length s) h)
 
 -- THEOREM (demand 2). Every P case of 01 on tokens, and its neighbours, by computation.
-pub cases-hold : map (λ (c : Case). tokenAt (c .bytes) 0) cases ≡ map (λ (c : Case). c .token) cases
+pub cases-hold : Each (λ (c : Case). tokenAt (c .bytes) 0 ≡ c .token) cases
 unfolding cases tokenAt tokenOf sequence judged numberRead every obeys isName joinedAt joinedFrom onPiece pieceAt within valueAfter signedOf ratioOf limited signedBy gcdOf gcdTurns
-cases-hold = refl
+cases-hold =
+    refl & refl & refl & refl & refl & refl & refl & refl & refl & refl
+    & refl & refl & refl & refl & refl & refl & refl & refl & refl & refl
+    & refl & refl & refl & refl & refl & refl & refl & tt

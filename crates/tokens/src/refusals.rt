@@ -1,5 +1,6 @@
 // Refusals and answers as numbers.
 ghost use mathlib.Core.Path.{_≡_};
+ghost use Rattle.tokens.specs.declared.Outcome.the-variants.{Refused};
 ghost use Rattle.tokens.specs.Refusal.{numberOf, answerNumber, answerValue};
 use crate::Outcome;
 use crate::Refusal;
@@ -25,6 +26,12 @@ pub fn number(refusal: Refusal) -> u32
         Refusal::NotWritable => 15,
         Refusal::NoRoom => 16,
     }
+}
+
+pub fn refused(refusal: Refusal, place: usize) -> Outcome
+    ensures { λ r. ⌜ r ≡ Refused refusal place ⌝ }
+{
+    Outcome::Refused { refusal, place }
 }
 
 // 0 where the call is done.

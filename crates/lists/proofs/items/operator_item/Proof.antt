@@ -1,5 +1,6 @@
 -- `items::operator_item` meets its contract. Assumes nothing.
-use Rattle.lists.proofs.Judging.{no-left, no-right, judged-left, operator-large, operator-here}
+use Rattle.numbers.proofs.Cond.{no-left, no-right}
+use Rattle.lists.proofs.Judging.{judged-left, operator-large, operator-here}
 use Rattle.lists.specs.Tokens.{operator}
 use lib.Dec.{eqb}
 use borrow.Author.Tests.{ne-eqb}

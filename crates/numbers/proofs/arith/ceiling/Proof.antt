@@ -8,15 +8,15 @@ use Rattle.numbers.proofs.arith.ceiling.Tie as tie
 
 returns : tie.Need-returns
 unfolding ceilingOf floorQuotient signedBy
-returns c = c .whole-from .ensures ∙ rw (c .before .negated2 .ensures .0, c .before .before .rounded-down .ensures, c .before .before .before .before .negated .ensures .0, c .before .before .before .before .before .numerator .ensures .0)
+returns c = c .whole-from .ensures ∙ rw (c .before .negated2 .ensures .0, c .before .before .rounded-down .ensures, c .before .before .before .negated .ensures .0, c .before .before .before .before .numerator .ensures .0)
 
 pub ceiling-spec : {M : Type 1} → statement M
 ceiling-spec =
     tie.close
     (tie.spec
-    (λ c κs. tt)
-    (λ c κs. tt)
     (λ c. omega arith)
+    (λ c κs. tt)
+    (λ c κs. tt)
     (λ c κs. tt)
     (λ c κs. tt)
     (λ c κs. tt)

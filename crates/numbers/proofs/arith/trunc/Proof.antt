@@ -8,14 +8,14 @@ use Rattle.numbers.proofs.arith.trunc.Tie as tie
 
 returns : tie.Need-returns
 unfolding truncOf truncQuotient signedBy
-returns c = c .whole-from .ensures ∙ rw (c .before .cut-off .ensures, c .before .before .before .numerator .ensures .0)
+returns c = c .whole-from .ensures ∙ rw (c .before .cut-off .ensures, c .before .before .numerator .ensures .0)
 
 pub trunc-spec : {M : Type 1} → statement M
 trunc-spec =
     tie.close
     (tie.spec
-    (λ c κs. tt)
     (λ c. omega arith)
+    (λ c κs. tt)
     (λ c κs. tt)
     (λ c κs. tt)
     returns)

@@ -11,10 +11,10 @@ use Rattle.tokens.specs.declared.Refusal.the-variants.{TooDeep}
 use Rattle.tokens.specs.declared.Read.the-variants.{Operator}
 use Rattle.tokens.proofs.reading.read_token.Reads as read-token-reads
 use Rattle.machine.proofs.Inside.{WentIn, PassedIn, EndsIn, token-inside, due-inside, solid-past, literal-later}
-use Rattle.machine.specs.Skeleton.{opening, solid, literalsFrom, literalBy, passing, held, andThen, bodyAt}
+use Rattle.machine.specs.Skeleton.{opening, solid, literalsFrom, literalBy, passing, held, andThen, bodyAt, literalAt}
 use Rattle.machine.specs.declared.Went.the-variants.{Past, Stop}
 use Rattle.machine.specs.declared.Passed.the-variants as passed
-use Rattle.skeleton.proofs.BodyTurns.{literalAt, turn, due-is, stopped, full, entered}
+use Rattle.skeleton.proofs.BodyTurns.{turn, due-there, stopped, full, entered}
 use Rattle.skeleton.proofs.bodies.body.Reads as body
 use Rattle.skeleton.proofs.bodies.body.Kinds as body-kinds
 use Rattle.skeleton.proofs.bodies.+body+literal.Lts-body as body-lts
@@ -71,15 +71,15 @@ body-enum-known-refusal : (t : ℕ) → body-lts.Need-enum-known-refusal (body-c
 body-enum-known-refusal t c = search needs
 
 body-returns : (t : ℕ) → body-lts.Need-returns (body-calls t) (body-at t) body.Post body-Inv-loop body-μ-loop
-body-returns t c = stopped _ _ _ _ _ (due-is _ _ _ _ _ (c .before .before .before .before .past-comments .ensures) (c .before .before .before .due-here .ensures) ∙ c .before .refusal .given .1)
+body-returns t c = stopped _ _ _ _ _ (due-there _ _ _ _ _ (c .before .before .before .before .past-comments .ensures) (c .before .before .before .due-here .ensures) ∙ c .before .refusal .given .1)
 
 body-returns-2 : (t : ℕ) → body-lts.Need-returns-2 (body-calls t) (body-at t) body.Post body-Inv-loop body-μ-loop
-body-returns-2 t c = ap (Stop TooDeep) (c .before .before .before .before .before .past-comments .ensures) ∙ full _ _ _ _ (due-is _ _ _ _ _ (c .before .before .before .before .before .past-comments .ensures) (c .before .before .before .before .due-here .ensures) ∙ c .before .before .next .given .1) (c .if1 .taken)
+body-returns-2 t c = ap (Stop TooDeep) (c .before .before .before .before .before .past-comments .ensures) ∙ full _ _ _ _ (due-there _ _ _ _ _ (c .before .before .before .before .before .past-comments .ensures) (c .before .before .before .before .due-here .ensures) ∙ c .before .before .next .given .1) (c .if1 .taken)
 
 body-loop-holds : (t : ℕ) → body-lts.Need-loop-holds (body-calls t) (body-at t) body.Post body-Inv-loop body-μ-loop
 body-loop-holds t c =
     let a = c .before .before .before .before .before .before .before .args in
-    let e = due-is _ _ _ _ _ (c .before .before .before .before .before .past-comments .ensures) (c .before .before .before .before .due-here .ensures) ∙ c .before .before .next .given .1 in
+    let e = due-there _ _ _ _ _ (c .before .before .before .before .before .past-comments .ensures) (c .before .before .before .before .due-here .ensures) ∙ c .before .before .next .given .1 in
     let g : WentIn (length (a .s .now)) (solid (a .s .now) (a .at)) (Past (c .before .before .next .given .0 .0)) = rw e at (due-inside opening (a .s .now) (a .at)) in
     (length (a .s .now), omega arith, entered (a .left) (a .s .now) (a .at) _ e (omega arith), omega (arith, g .0, solid-past (a .s .now) (a .at)), omega (arith, g .0, g .1, solid-past (a .s .now) (a .at)), omega arith)
 

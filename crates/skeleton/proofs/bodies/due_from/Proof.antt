@@ -1,7 +1,7 @@
 -- `bodies::due_from` meets its contract: comments, then the operator. Assumes nothing.
 use mathlib.Core.Path.{sym}
 use borrow.Author.Needs.{needs}
-use Rattle.skeleton.proofs.BodyTurns.{due-is}
+use Rattle.skeleton.proofs.BodyTurns.{due-there}
 use Rattle.skeleton.proofs.bodies.due_from.Statement.{statement}
 use Rattle.skeleton.proofs.bodies.due_from.Tie as tie
 
@@ -11,4 +11,4 @@ due-from-spec =
     (tie.spec
     (λ c κs. search needs)
     (λ c κs. search needs)
-    (λ c. sym (due-is _ _ _ _ _ (c .before .past-comments .ensures) (c .due-here .ensures))))
+    (λ c. sym (due-there _ _ _ _ _ (c .before .past-comments .ensures) (c .due-here .ensures))))

@@ -10,7 +10,7 @@ use Rattle.tokens.proofs.reading.read_token.Tie as tie
 
 returns : tie.Need-returns
 unfolding tokenAt tokenOf
-returns c = c .cut-off .ensures ∙ simp (le-ltb _ _ (c .before .if1 .taken))
+returns c = let a = c .before .before .before .args in c .cut-off .ensures ∙ simp (le-ltb (a .at) (length (a .s .now)) (omega arith))
 
 returns-2 : tie.Need-returns-2
 unfolding tokenAt tokenOf

@@ -1,4 +1,5 @@
-use Rattle.tokens.proofs.Rules.{every-anything, and-true}
+use mathlib.Core.Bool.{and-true}
+use Rattle.tokens.proofs.Rules.{every-anything}
 use mathlib.Core.Path.{sym}
 use borrow.Author.Needs.{needs}
 use Rattle.tokens.proofs.sequences.good_more.Statement.{statement}

@@ -1,5 +1,5 @@
 use lib.Dec.{leb}
-use Rattle.tokens.proofs.Cond.{both}
+use Rattle.numbers.proofs.Cond.{both}
 use borrow.Author.Tests.{leb-true}
 use Rattle.tokens.specs.Text.{lowerOf}
 use native.Mathlib.Omega.{arith}

@@ -1,6 +1,6 @@
 -- Tests: a fact of both answers, by which answer, two tests at once. Assumes nothing.
 use mathlib.Core.Path.{_≡_, refl, ap, _∙_}
-use mathlib.Core.Bool.{Bool, true, false, cond, _&&_}
+use mathlib.Core.Bool.{Bool, true, false, cond, _&&_, and-false}
 use Prim.Native.Nat.{ℕ, _<_, _≤_}
 use lib.Dec.{ltb}
 use borrow.Author.Tests.{ltb-true, ltb-false}
@@ -21,6 +21,13 @@ both false false h = (h, h)
 
 pub both-are : (a b : Bool) → a ≡ true → b ≡ true → a && b ≡ true
 both-are a b h k = ap (λ (x : Bool). x && b) h ∙ k
+
+-- two tests fail where one does
+pub no-left : (a b : Bool) → a ≡ false → a && b ≡ false
+no-left a b h = ap (λ (x : Bool). x && b) h
+
+pub no-right : (a b : Bool) → b ≡ false → a && b ≡ false
+no-right a b h = ap (λ (x : Bool). a && x) h ∙ and-false a
 
 -- by a test
 pub by-test : {A : Type 0} (t : Bool) → (t ≡ true → A) → (t ≡ false → A) → A
