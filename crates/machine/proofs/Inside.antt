@@ -78,7 +78,7 @@ PassedIn n low (On next) = Spans n low next
 PassedIn n low (Closed next) = Spans n low next
 PassedIn n low (Bad refusal place) = Unit
 
-went-lower : (n low at : ℕ) (w : Went) → low ≤ at → WentIn n at w → WentIn n low w
+pub went-lower : (n low at : ℕ) (w : Went) → low ≤ at → WentIn n at w → WentIn n low w
 went-lower n low at (Past next) h e = (omega (arith, e .0), e .1)
 went-lower n low at (Stop refusal place) h e = tt
 

@@ -20,6 +20,13 @@ pub fn word(x: usize) -> u32
     x as u32
 }
 
+// A word as a count.
+pub fn size(x: u32) -> usize
+    ensures { λ r. ⌜ (r ≡ x) × (r < 4294967296) ⌝ }
+{
+    x as usize
+}
+
 // The word at byte `i`.
 pub fn get_word(b: &[u8], i: usize) -> u32
     requires { ⌜ i + 4 ≤ length (now b) ⌝ }
