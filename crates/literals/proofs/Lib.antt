@@ -1,1 +1,2 @@
 -- The laws, lowest first. Assumes nothing.
+pub mod Letters

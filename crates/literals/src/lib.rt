@@ -1,5 +1,6 @@
 // The literal that is due at a place of a body's bytes, and the texts that identifiers point to.
 pub mod due; // the literal at a place
+pub mod names; // identifiers compared by their text
 
 // A literal, and where the next one stands, past comments.
 pub struct Due {
