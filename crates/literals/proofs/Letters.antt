@@ -9,6 +9,7 @@ use borrow.Author.Tests.{eq-eqb, ne-eqb}
 use lib.Dec.{eqb}
 use lib.ListN.{length, getD, take, drop, length-append, List·getD-append, drop-of-length-le}
 use lib.Seq.{slice, drop-cons, getD-append-add, getD-take, getD-drop}
+use Rattle.numbers.proofs.Cond.{no-left, no-right}
 use Rattle.tokens.specs.declared.Piece.{Piece}
 use Rattle.tokens.specs.declared.Piece.the-variants.{Data, Missing}
 use Rattle.tokens.specs.Text.{lowerOf, lowered}
@@ -144,16 +145,12 @@ lowered-at [] i h = absurd (omega arith)
 lowered-at (b ∷ d) zero h = refl
 lowered-at (b ∷ d) (suc i) h = lowered-at d i (omega arith)
 
-and-false : (t : Bool) → (t && false) ≡ false
-and-false true = refl
-and-false false = refl
-
 sizes-differ : (l m : List ℕ) → (length l ≡ length m → ⊥) → sameBytes l m ≡ false
 unfolding sameBytes
 sizes-differ [] [] h = absurd (h refl)
 sizes-differ [] (b ∷ m) h = refl
 sizes-differ (a ∷ l) [] h = refl
-sizes-differ (a ∷ l) (b ∷ m) h = ap (λ (t : Bool). eqb a b && t) (sizes-differ l m (λ e. h (ap suc e))) ∙ and-false (eqb a b)
+sizes-differ (a ∷ l) (b ∷ m) h = no-right (eqb a b) (sameBytes l m) (sizes-differ l m (λ e. h (ap suc e)))
 
 module _ (d e : List ℕ) where
   -- what is left to compare from byte i on
@@ -178,7 +175,7 @@ module _ (d e : List ℕ) where
       same-byte p = heads ∙ ap (λ (t : Bool). t && comparing (suc i)) (eq-eqb a b p)
 
       pub other-byte : (a ≡ b → ⊥) → comparing i ≡ false
-      other-byte p = heads ∙ ap (λ (t : Bool). t && comparing (suc i)) (ne-eqb a b p)
+      other-byte p = heads ∙ no-left (eqb a b) (comparing (suc i)) (ne-eqb a b p)
 
 -- ---- the text of an identifier
 
