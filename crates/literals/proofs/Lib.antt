@@ -1,2 +1,3 @@
 -- The laws, lowest first. Assumes nothing.
 pub mod Finding
+pub mod Letters

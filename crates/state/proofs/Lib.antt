@@ -9,4 +9,5 @@ pub mod Stacking
 pub mod Marking
 pub mod Framing
 pub mod Charging
+pub mod Cardinals
 pub mod Entering

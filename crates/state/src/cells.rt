@@ -1,8 +1,10 @@
 // Cells: vectors made and read, the frame that an operator keeps.
 ghost use mathlib.Core.Path.{_≡_};
 ghost use Prim.Native.Nat.{_<_, _≤_};
-ghost use Rattle.machine.specs.Engine.{build, compose};
-ghost use Rattle.state.specs.Layout.{Busy, Tried};
+ghost use lib.ListN.{length, take, drop};
+ghost use Rattle.table.specs.Slots.{slots};
+ghost use Rattle.machine.specs.Engine.{build, compose, isCardinal, allCardinals};
+ghost use Rattle.state.specs.Layout.{valueIn, valuesAt, Busy, Tried};
 ghost use Rattle.state.specs.Operations.{element};
 use crate::Registers;
 use table::Slot;
@@ -95,4 +97,46 @@ pub fn compose(w: &mut [u8], r: Registers, start: u32, len: u32) -> Registers
     q.used = used + 50;
     q.ok = true;
     q
+}
+
+// The slot holds a Cardinal: an integer from 0 to 16777215.
+fn is_cardinal(v: Slot) -> bool
+    ensures { λ r. ⌜ r ≡ isCardinal (valueIn v) ⌝ }
+{
+    if v.kind == 2 {
+        return false;
+    }
+    if v.kind == 3 {
+        return false;
+    }
+    if v.kind == 4 {
+        return false;
+    }
+    if v.b != 1 {
+        return false;
+    }
+    v.a <= 16777215
+}
+
+// ERROR: of the cells in use, the `count` from `first` on are all Cardinals.
+pub fn all_cardinals(w: &[u8], used: usize, first: usize, count: usize) -> bool
+    requires { ⌜ (used ≤ 1024) × (48000 ≤ length (now w)) ⌝ }
+    ensures { λ r. ⌜ r ≡ allCardinals (take count (drop first (valuesAt (slots (now (w .entry))) 728 used))) ⌝ }
+{
+    let mut k = first;
+    let mut left = count;
+    while k < used {
+        if left == 0 {
+            return true;
+        }
+        let v = table::slots::get(w, 728 + k);
+        let cardinal = is_cardinal(v);
+        if cardinal {
+            k += 1;
+            left -= 1;
+        } else {
+            return false;
+        }
+    }
+    true
 }
