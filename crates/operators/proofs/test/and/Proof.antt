@@ -1,0 +1,27 @@
+-- `test::and` meets its contract. Assumes nothing.
+use borrow.Author.Needs.{needs}
+use mathlib.Core.Path.{_∙_}
+use Rattle.machine.specs.Ops.Test.{testEffect, joined}
+use Rattle.operators.proofs.Testing.{and-off, and-on}
+use Rattle.operators.proofs.Reading.{no-card, is-card}
+use Rattle.machine.specs.Operand.{whether}
+use Rattle.operators.proofs.test.and.Statement.{statement}
+use Rattle.operators.proofs.test.and.Tie as tie
+
+pub and-spec : {M : Type 1} → statement M
+unfolding testEffect joined
+and-spec =
+    tie.close
+    (tie.spec
+    (λ c κs. search needs)
+    (λ c. search needs)
+    (λ c. search needs)
+    (λ c κs. search needs)
+    (λ c. search needs)
+    (λ c. search needs)
+    (λ c κs. search needs)
+    (λ c. (c .whether .ensures .0 ∙ and-off (c .before .before .before .before .before .before .before .a .given .0 .0) (c .before .before .before .b .given .0 .0) (c .before .if1 .taken) ∙ is-card _ _ (c .before .before .before .before .before .cardinal2 .ensures .0) (c .before .before .before .b .given .1) ∙ is-card _ _ (c .before .before .before .before .before .before .before .before .before .cardinal .ensures .0) (c .before .before .before .before .before .before .before .a .given .1), c .whether .ensures .1))
+    (λ c κs. search needs)
+    (λ c. (no-card _ _ (c .before .before .cardinal .ensures .0) (c .enum-told .given .1), tt))
+    (λ c. (no-card _ _ (c .before .before .cardinal2 .ensures .0) (c .enum-told2 .given .1) ∙ is-card _ _ (c .before .before .before .before .before .before .cardinal .ensures .0) (c .before .before .before .before .a .given .1), tt))
+    (λ c. (c .whether2 .ensures .0 ∙ and-on (c .before .before .before .before .before .before .before .a .given .0 .0) (c .before .before .before .b .given .0 .0) (c .before .if1 .left) ∙ is-card _ _ (c .before .before .before .before .before .cardinal2 .ensures .0) (c .before .before .before .b .given .1) ∙ is-card _ _ (c .before .before .before .before .before .before .before .before .before .cardinal .ensures .0) (c .before .before .before .before .before .before .before .a .given .1), c .whether2 .ensures .1)))
