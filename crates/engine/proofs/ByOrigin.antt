@@ -28,14 +28,15 @@ use Rattle.state.specs.declared.Registers.{Registers}
 use Rattle.state.specs.Layout.{Tried}
 use Rattle.state.specs.Operations.{spell}
 use Rattle.state.proofs.Trying.{tried-as}
-use Rattle.engine.specs.Bodies.{codeOf, Short}
+use Rattle.literals.specs.Names.{both}
+use Rattle.engine.specs.Bodies.{Short}
 
-bytes-short : (pre body : List ℕ) (o : ℕ) → Short pre body → length (bytesOf (codeOf pre body) o) ≤ longest
+bytes-short : (pre body : List ℕ) (o : ℕ) → Short pre body → length (bytesOf (both pre body) o) ≤ longest
 bytes-short pre body zero h = h .pre-fits
 bytes-short pre body (suc zero) h = h .body-fits
 bytes-short pre body (suc (suc o)) h = omega arith
 
-none-there : (pre body : List ℕ) (o : ℕ) → (o ≡ 0 → ⊥) → (o ≡ 1 → ⊥) → bytesOf (codeOf pre body) o ≡ []
+none-there : (pre body : List ℕ) (o : ℕ) → (o ≡ 0 → ⊥) → (o ≡ 1 → ⊥) → bytesOf (both pre body) o ≡ []
 none-there pre body zero f g = absurd (f refl)
 none-there pre body (suc zero) f g = absurd (g refl)
 none-there pre body (suc (suc o)) f g = refl
@@ -107,22 +108,22 @@ next-inside b at = token-next b at (tokenAt b at) (token-inside b at)
 -- ---- what the functions by origin answer
 
 module _ (pre body : List ℕ) (o : ℕ) (short : Short pre body) where
-  pub length-pre : o ≡ 0 → (length pre ≡ length (bytesOf (codeOf pre body) o)) × (length pre ≤ 16777215)
+  pub length-pre : o ≡ 0 → (length pre ≡ length (bytesOf (both pre body) o)) × (length pre ≤ 16777215)
   length-pre e = (rw e, short .pre-fits)
 
-  pub length-page : o ≡ 1 → (length body ≡ length (bytesOf (codeOf pre body) o)) × (length body ≤ 16777215)
+  pub length-page : o ≡ 1 → (length body ≡ length (bytesOf (both pre body) o)) × (length body ≤ 16777215)
   length-page e = (rw e, short .body-fits)
 
-  pub length-none : (o ≡ 0 → ⊥) → (o ≡ 1 → ⊥) → (0 ≡ length (bytesOf (codeOf pre body) o)) × (0 ≤ 16777215)
+  pub length-none : (o ≡ 0 → ⊥) → (o ≡ 1 → ⊥) → (0 ≡ length (bytesOf (both pre body) o)) × (0 ≤ 16777215)
   length-none f g = (rw (none-there pre body o f g), omega arith)
 
-  pub solid-pre : (start at q r : ℕ) → at ≡ start → o ≡ 0 → q ≡ solid pre at → r ≡ q → r ≡ solid (bytesOf (codeOf pre body) o) start
+  pub solid-pre : (start at q r : ℕ) → at ≡ start → o ≡ 0 → q ≡ solid pre at → r ≡ q → r ≡ solid (bytesOf (both pre body) o) start
   solid-pre start at q r ea e eq er = er ∙ eq ∙ (rw (e, ea))
 
-  pub solid-page : (start at q r : ℕ) → at ≡ start → o ≡ 1 → q ≡ solid body at → r ≡ q → r ≡ solid (bytesOf (codeOf pre body) o) start
+  pub solid-page : (start at q r : ℕ) → at ≡ start → o ≡ 1 → q ≡ solid body at → r ≡ q → r ≡ solid (bytesOf (both pre body) o) start
   solid-page start at q r ea e eq er = er ∙ eq ∙ (rw (e, ea))
 
-  pub solid-there : (start : ℕ) → (o ≡ 0 → ⊥) → (o ≡ 1 → ⊥) → start ≡ solid (bytesOf (codeOf pre body) o) start
+  pub solid-there : (start : ℕ) → (o ≡ 0 → ⊥) → (o ≡ 1 → ⊥) → start ≡ solid (bytesOf (both pre body) o) start
   solid-there start f g = rw (none-there pre body o f g) (solid-none start)
 
   pub pre-word : (at q : ℕ) → at < 4294967296 → q ≡ solid pre at → q < 4294967296
@@ -132,21 +133,21 @@ module _ (pre body : List ℕ) (o : ℕ) (short : Short pre body) where
   page-word at q h e = rw e (solid-fits body at 4294967296 h (omega (arith, short .body-fits)))
 
   module _ (place at : ℕ) (d : Due) (ea : at ≡ place) where
-    pub due-pre : o ≡ 0 → Is (foundAt pre at) d → Is (foundAt (bytesOf (codeOf pre body) o) place) d × (d .next ≤ 16777215)
+    pub due-pre : o ≡ 0 → Is (foundAt pre at) d → Is (foundAt (bytesOf (both pre body) o) place) d × (d .next ≤ 16777215)
     due-pre e t = (rw (e, ← ea) t, omega (arith, t .next, next-inside pre at, short .pre-fits))
 
-    pub due-page : o ≡ 1 → Is (foundAt body at) d → Is (foundAt (bytesOf (codeOf pre body) o) place) d × (d .next ≤ 16777215)
+    pub due-page : o ≡ 1 → Is (foundAt body at) d → Is (foundAt (bytesOf (both pre body) o) place) d × (d .next ≤ 16777215)
     due-page e t = (rw (e, ← ea) t, omega (arith, t .next, next-inside body at, short .body-fits))
 
-  pub due-none : (place : ℕ) → (o ≡ 0 → ⊥) → (o ≡ 1 → ⊥) → Is (foundAt (bytesOf (codeOf pre body) o) place) (record { literal = Plain 0; next = 0 }) × (0 ≤ 16777215)
+  pub due-none : (place : ℕ) → (o ≡ 0 → ⊥) → (o ≡ 1 → ⊥) → Is (foundAt (bytesOf (both pre body) o) place) (record { literal = Plain 0; next = 0 }) × (0 ≤ 16777215)
   due-none place f g = (rw (none-there pre body o f g) (found-none place), omega arith)
 
 module _ {w w′ : List ℕ} {r r′ : Registers} (pre body : List ℕ) (o at : ℕ) where
-  pub spell-pre : o ≡ 0 → Tried (spell pre at) w r w′ r′ → Tried (spell (bytesOf (codeOf pre body) o) at) w r w′ r′
+  pub spell-pre : o ≡ 0 → Tried (spell pre at) w r w′ r′ → Tried (spell (bytesOf (both pre body) o) at) w r w′ r′
   spell-pre e t = rw e t
 
-  pub spell-page : o ≡ 1 → Tried (spell body at) w r w′ r′ → Tried (spell (bytesOf (codeOf pre body) o) at) w r w′ r′
+  pub spell-page : o ≡ 1 → Tried (spell body at) w r w′ r′ → Tried (spell (bytesOf (both pre body) o) at) w r w′ r′
   spell-page e t = rw e t
 
-  pub spell-nowhere : (n : ℕ) → (o ≡ 0 → ⊥) → (o ≡ 1 → ⊥) → length pre ≤ n → Tried (spell pre n) w r w′ r′ → Tried (spell (bytesOf (codeOf pre body) o) at) w r w′ r′
+  pub spell-nowhere : (n : ℕ) → (o ≡ 0 → ⊥) → (o ≡ 1 → ⊥) → length pre ≤ n → Tried (spell pre n) w r w′ r′ → Tried (spell (bytesOf (both pre body) o) at) w r w′ r′
   spell-nowhere n f g h t = rw (none-there pre body o f g) (spell-none pre at n h t)

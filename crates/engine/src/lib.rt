@@ -1,3 +1,9 @@
 // The engine: what an operator asks for done on the state in the table, a literal executed, a step, and a body under an allowance.
 pub mod origins; // the bytes that a context and a value point into
 pub mod works; // the engine's part of an operator
+
+// A token of the body with that origin.
+pub struct Place {
+    pub origin: u32,
+    pub start: u32,
+}

@@ -7,12 +7,13 @@ ghost use Rattle.machine.specs.Literal.{bytesOf, foundAt};
 ghost use Rattle.literals.specs.Dues.{Is};
 ghost use Rattle.state.specs.Layout.{Busy, Tried};
 ghost use Rattle.state.specs.Operations.{spell};
-ghost use Rattle.engine.specs.Bodies.{codeOf, Short};
+ghost use Rattle.literals.specs.Names.{both};
+ghost use Rattle.engine.specs.Bodies.{Short};
 use state::Registers;
 
 pub fn length_of(pre: &[u8], body: &[u8], origin: u32) -> usize
     requires { ⌜ Short (now pre) (now body) ⌝ }
-    ensures { λ r. ⌜ (r ≡ length (bytesOf (codeOf (now (pre .entry)) (now (body .entry))) origin)) × (r ≤ 16777215) ⌝ }
+    ensures { λ r. ⌜ (r ≡ length (bytesOf (both (now (pre .entry)) (now (body .entry))) origin)) × (r ≤ 16777215) ⌝ }
 {
     if origin == 0 {
         return pre.len();
@@ -26,7 +27,7 @@ pub fn length_of(pre: &[u8], body: &[u8], origin: u32) -> usize
 // Past the comments that stand from `start` on.
 pub fn solid_of(pre: &[u8], body: &[u8], origin: u32, start: u32) -> u32
     requires { ⌜ Short (now pre) (now body) ⌝ }
-    ensures { λ r. ⌜ r ≡ solid (bytesOf (codeOf (now (pre .entry)) (now (body .entry))) origin) start ⌝ }
+    ensures { λ r. ⌜ r ≡ solid (bytesOf (both (now (pre .entry)) (now (body .entry))) origin) start ⌝ }
 {
     let at = table::words::size(start);
     if origin == 0 {
@@ -41,7 +42,7 @@ pub fn solid_of(pre: &[u8], body: &[u8], origin: u32, start: u32) -> u32
 // The literal at a place.
 pub fn due_of(pre: &[u8], body: &[u8], origin: u32, place: u32) -> literals::Due
     requires { ⌜ Short (now pre) (now body) ⌝ }
-    ensures { λ r. ⌜ Is (foundAt (bytesOf (codeOf (now (pre .entry)) (now (body .entry))) origin) place) r × (r .next ≤ 16777215) ⌝ }
+    ensures { λ r. ⌜ Is (foundAt (bytesOf (both (now (pre .entry)) (now (body .entry))) origin) place) r × (r .next ≤ 16777215) ⌝ }
 {
     let at = table::words::size(place);
     if origin == 0 {
@@ -59,7 +60,7 @@ pub fn due_of(pre: &[u8], body: &[u8], origin: u32, place: u32) -> literals::Due
 // The string token at `at` becomes a vector; past the end of any bytes there is none.
 pub fn spell_of(w: &mut [u8], r: Registers, pre: &[u8], body: &[u8], origin: u32, at: usize) -> Registers
     requires { ⌜ Busy (now w) r ⌝ }
-    ensures { λ q. ⌜ Tried (spell (bytesOf (codeOf (now (pre .entry)) (now (body .entry))) origin) at) (now (w .entry)) r (now (w .exit)) q ⌝ }
+    ensures { λ q. ⌜ Tried (spell (bytesOf (both (now (pre .entry)) (now (body .entry))) origin) at) (now (w .entry)) r (now (w .exit)) q ⌝ }
 {
     if origin == 0 {
         return state::letters::spell(w, r, pre, at);
