@@ -31,7 +31,7 @@ use Rattle.state.proofs.Trying.{tried-as}
 use Rattle.literals.specs.Names.{both}
 use Rattle.engine.specs.Bodies.{Short}
 
-bytes-short : (pre body : List ℕ) (o : ℕ) → Short pre body → length (bytesOf (both pre body) o) ≤ longest
+pub bytes-short : (pre body : List ℕ) (o : ℕ) → Short pre body → length (bytesOf (both pre body) o) ≤ longest
 bytes-short pre body zero h = h .pre-fits
 bytes-short pre body (suc zero) h = h .body-fits
 bytes-short pre body (suc (suc o)) h = omega arith

@@ -2,3 +2,4 @@
 pub mod ByOrigin
 pub mod Working
 pub mod Acting
+pub mod Stepping

@@ -1,10 +1,45 @@
--- The bodies that the engine runs: two slices of a master that is not too long. While the preamble runs there is no page, and its slice is
--- empty: no bytes are read there either way. Assumes nothing.
-use Prim.Native.Nat.{ℕ, _≤_}
+-- A step and a run of the bodies pre and body, two slices of a master that is not too long, on the table. While the preamble runs there is
+-- no page, and its slice is empty: no bytes are read there either way. Assumes nothing.
+use Prim.Native.Nat.{ℕ, _+_, _≤_, _<_}
+use mathlib.Core.Path.{_≡_}
 use mathlib.Core.List.{List}
 use lib.ListN.{length}
 use Rattle.tokens.specs.Format.{longest}
+use Rattle.machine.specs.declared.Literal.{Literal}
+use Rattle.machine.specs.declared.Literal.the-variants.{Figure, Name, Text, Plain, WithBody}
+use Rattle.machine.specs.State.{State}
+use Rattle.machine.specs.Literal.{Code}
+use Rattle.machine.specs.Step.{execute, executed, step, run}
+use Rattle.literals.specs.Names.{both}
+use Rattle.state.specs.declared.Registers.{Registers}
+use Rattle.state.specs.Layout.{aside, abs, Good}
 
 pub record Short (pre body : List ℕ) : Type 0 where
   pub pre-fits : length pre ≤ longest
   pub body-fits : length body ≤ longest
+
+-- a held body's end is a word
+abbrev pub SizedLiteral : Literal → Type 0
+SizedLiteral (Figure a) = Unit
+SizedLiteral (Name start len) = Unit
+SizedLiteral (Text start) = Unit
+SizedLiteral (Plain n) = Unit
+SizedLiteral (WithBody n start len) = start + len < 4294967296
+
+-- a literal executed, and what follows
+unfoldable pub performs : Code → Literal → State → State
+performs code x s = executed s (execute code x s)
+
+-- one step
+pub record Stepped (pre body w : List ℕ) (r : Registers) (w′ : List ℕ) (r′ : Registers) : Type 0 where
+  pub good : Good w′ r′
+  pub does : abs w′ r′ ≡ step (both pre body) (abs w r)
+  pub keeps : aside w′ ≡ aside w
+  pub counted : r′ .steps ≡ r .steps + 1
+
+-- at most so many steps
+pub record Ran (pre body : List ℕ) (allowance : ℕ) (w : List ℕ) (r : Registers) (w′ : List ℕ) (r′ : Registers) : Type 0 where
+  pub good : Good w′ r′
+  pub does : abs w′ r′ ≡ run allowance (both pre body) (abs w r)
+  pub keeps : aside w′ ≡ aside w
+  pub counted : r′ .steps ≤ r .steps + allowance

@@ -1,5 +1,6 @@
 // The engine: what an operator asks for done on the state in the table, a literal executed, a step, and a body under an allowance.
 pub mod origins; // the bytes that a context and a value point into
+pub mod steps; // a literal, a step, a body under an allowance
 pub mod works; // the engine's part of an operator
 
 // A token of the body with that origin.

@@ -31,7 +31,7 @@ fn origin_of(w: &[u8], depth: usize) -> u32
 }
 
 // The string token at `start` of the running body becomes a vector.
-fn spell(w: &mut [u8], r: Registers, pre: &[u8], body: &[u8], start: usize) -> Registers
+pub fn spell(w: &mut [u8], r: Registers, pre: &[u8], body: &[u8], start: usize) -> Registers
     requires { ⌜ Busy (now w) r ⌝ }
     ensures { λ q. ⌜ Tried (spell (both (now (pre .entry)) (now (body .entry))) start) (now (w .entry)) r (now (w .exit)) q ⌝ }
 {

@@ -1,0 +1,257 @@
+-- A literal executed, a step, and a run, in the words of the table. Assumes nothing.
+use Prim.Native.Nat.{ℕ, zero, suc, _+_, _-_, _%_, _≤_, _<_}
+use native.Mathlib.Nat.{mod-lt}
+use native.Mathlib.Omega.{arith}
+use mathlib.Core.Path.{_≡_, refl, sym, ap, _∙_}
+use mathlib.Core.Bool.{Bool, true, false, cond, not, _&&_}
+use mathlib.Core.List.{List, [], _∷_}
+use mathlib.Core.Option.{Option}
+use borrow.Author.Tests.{le-leb, lt-leb}
+use mir.Syntax.{w32}
+use mir.Val.{toZ}
+use lib.Dec.{eqb}
+use lib.ListN.{length, getD, take}
+use Rattle.numbers.specs.declared.Number as num
+use Rattle.table.specs.declared.Slot.{Slot}
+use Rattle.table.specs.Slots.{slots, nil}
+use Rattle.machine.specs.declared.Value.{Value}
+use Rattle.machine.specs.declared.Value.the-variants.{Number, Identifier, Vector, Operator}
+use Rattle.machine.specs.declared.Op.{Op}
+use Rattle.machine.specs.declared.BodyOp.{BodyOp}
+use Rattle.machine.specs.declared.Literal.{Literal}
+use Rattle.machine.specs.declared.Literal.the-variants.{Figure, Name, Text, Plain, WithBody}
+use Rattle.machine.specs.declared.Effect.{Effect}
+use Rattle.machine.specs.State.{State, running}
+use Rattle.machine.specs.Literal.{Code, bytesOf, foundAt}
+use Rattle.machine.specs.Operators.{opOf, bodyOpOf, arityOf, effectOf, popped, performed}
+use Rattle.machine.specs.Ops.Control.{bodyArity, bodyEffect}
+use Rattle.machine.specs.Contexts.{above, fault, settle, skippedIn, skipped}
+use Rattle.machine.specs.Engine.{provided, values, has, pops, push, spell, worked, does, affected}
+use Rattle.machine.specs.Step.{effectAt, execute, executed, isUnmark0, begun, literalStep, ended, stepBy, dueIn, step, run}
+use Rattle.machine.proofs.Inside.{HeldIn, found-inside}
+use Rattle.literals.specs.declared.Due.{Due}
+use Rattle.literals.specs.Dues.{Is}
+use Rattle.literals.specs.Names.{both}
+use Rattle.operators.specs.Sizes.{Small}
+use Rattle.state.specs.declared.Registers.{Registers}
+use Rattle.state.specs.declared.Tops.{Tops}
+use Rattle.state.specs.Layout.{half, valueIn, stackOf, contextIn, contextsOf, abs, aside, Good, Busy, Done, answer, Tried, Begun, Topmost}
+use Rattle.state.specs.Operations as table
+use Rattle.state.proofs.Parts.{contexts-top, contexts-at, length-stack}
+use Rattle.state.proofs.Cutting.{over-above}
+use Rattle.state.proofs.Trying.{trying, failed, tried-no, tried-as, tried-from, pops-is}
+use Rattle.state.proofs.Stacking.{above-few}
+use Rattle.engine.specs.Bodies.{Short, SizedLiteral, performs, Stepped, Ran}
+use Rattle.engine.proofs.ByOrigin.{bytes-short}
+
+-- ---- the values that an operator reads
+
+small : (v : Slot) (t : Bool) (u : Bool) (s : Bool) → Small (cond t (Identifier (v .a) (v .b) (v .c)) (cond u (Vector (half (v .a)) (half (v .b)) (half (v .c))) (cond s (Operator (v .a) (v .b) (v .c) (v .d)) (Number (record { num = toZ w32 (v .a); den = v .b })))))
+small v true u s = tt
+small v false true s = (mod-lt (v .a) (omega arith), mod-lt (v .b) (omega arith), mod-lt (v .c) (omega arith))
+small v false false true = tt
+small v false false false = tt
+
+pub small-value : (x : Value) (v : Slot) → x ≡ valueIn v → Small x
+unfolding valueIn
+small-value x v e = rw e (small v (eqb (v .kind) 2) (eqb (v .kind) 3) (eqb (v .kind) 4))
+
+-- two are enough to know whether there are a, of at most two
+fewer : (vs : List Value) (a : ℕ) → a ≤ 2 → length (take 2 vs) < a → length vs < a
+fewer [] a h l = l
+fewer (x ∷ []) a h l = l
+fewer (x ∷ y ∷ vs) a h l = absurd (omega arith)
+
+enough : (vs : List Value) (a : ℕ) → a ≤ length (take 2 vs) → a ≤ length vs
+enough [] a l = l
+enough (x ∷ []) a l = l
+enough (x ∷ y ∷ vs) a l = omega arith
+
+module _ {w : List ℕ} {r : Registers} (code : Code) (x : Literal) (a : ℕ) (t : Tops) (g : Busy w r) (two : a ≤ 2) (ea : a ≡ popped x) (et : Topmost (above (stackOf (slots w) (r .height))) t) where
+  exec-few : {r′ : Registers} → t .count < a → r′ ≡ failed r → Tried (execute code x) w r w r′
+  unfolding execute provided
+  exec-few {r′} h q =
+      let c = et .count in
+      tried-no g (rw (← ea, lt-leb a (length (above (stackOf (slots w) (r .height)))) (fewer (above (stackOf (slots w) (r .height))) a two (omega arith)))) q
+
+  exec-done : {w′ : List ℕ} {q r′ : Registers} (e : Effect) → a ≤ t .count → e ≡ effectAt x (abs w r) → q ≡ trying r (r .height - a) (r .depth) (r .used) (r .ok) → Tried (affected code e) w q w′ r′ → Tried (execute code x) w r w′ r′
+  unfolding execute provided
+  exec-done {w′} {q} {r′} e h i eq d =
+      let c = et .count in
+      let k = length (above (stackOf (slots w) (r .height))) in
+      let l : a ≤ k = enough (above (stackOf (slots w) (r .height))) a (omega arith) in
+      let z : k ≤ r .height = omega (arith, above-few (stackOf (slots w) (r .height)), length-stack (slots w) (r .height)) in
+      tried-from (rw (← ea, le-leb a k l, ← i, eq, pops-is w r a k (r .ok) l z refl)) (rw eq) d
+
+-- values popped
+pub busy-lower : {w : List ℕ} {r q : Registers} (a : ℕ) → Busy w r → q ≡ trying r (r .height - a) (r .depth) (r .used) (r .ok) → Busy w q
+busy-lower a g e = rw e (omega arith)
+
+-- ---- an operator without a body
+
+module _ {w : List ℕ} {r : Registers} (code : Code) (n a : ℕ) (o : Op) (t : Tops) (g : Busy w r) (eo : o ≡ opOf n) (ea : (a ≡ arityOf o) × (a ≤ 2)) (et : Topmost (above (stackOf (slots w) (r .height))) t) where
+  pops-plain : a ≡ popped (Plain n)
+  unfolding popped
+  pops-plain = rw (← eo) (ea .0)
+
+  pub plain-few : {r′ : Registers} → t .count < a → r′ ≡ failed r → Tried (execute code (Plain n)) w r w r′
+  plain-few {r′} h q = exec-few code (Plain n) a t g (ea .1) pops-plain et h q
+
+  -- the height does not fall below the bottom
+  pub plain-fits : a ≤ t .count → a ≤ r .height
+  plain-fits h = let c = et .count in omega (arith, enough (above (stackOf (slots w) (r .height))) a (omega arith), above-few (stackOf (slots w) (r .height)), length-stack (slots w) (r .height))
+
+  pub plain-done : {w′ : List ℕ} {q r′ : Registers} (x y : Value) (e : Effect) → a ≤ t .count → x ≡ valueIn (t .first) → y ≡ valueIn (t .second) → e ≡ effectOf o x y → q ≡ trying r (r .height - a) (r .depth) (r .used) (r .ok)
+      → Tried (affected code e) w q w′ r′ → Tried (execute code (Plain n)) w r w′ r′
+  unfolding effectAt performed
+  plain-done {w′} {q} {r′} x y e h ex ey ee eq d =
+      exec-done code (Plain n) a t g (ea .1) pops-plain et e h (ee ∙ (rw (← eo, ← (et .first), ← (et .second), ex, ey))) eq d
+
+-- ---- an operator with its body
+
+module _ {w : List ℕ} {r : Registers} (code : Code) (n start len a : ℕ) (o : BodyOp) (t : Tops) (g : Busy w r) (eo : o ≡ bodyOpOf n) (ea : (a ≡ bodyArity o) × (a ≤ 2)) (et : Topmost (above (stackOf (slots w) (r .height))) t) where
+  pops-holder : a ≡ popped (WithBody n start len)
+  unfolding popped
+  pops-holder = rw (← eo) (ea .0)
+
+  pub holder-few : {r′ : Registers} → t .count < a → r′ ≡ failed r → Tried (execute code (WithBody n start len)) w r w r′
+  holder-few {r′} h q = exec-few code (WithBody n start len) a t g (ea .1) pops-holder et h q
+
+  pub holder-fits : a ≤ t .count → a ≤ r .height
+  holder-fits h = let c = et .count in omega (arith, enough (above (stackOf (slots w) (r .height))) a (omega arith), above-few (stackOf (slots w) (r .height)), length-stack (slots w) (r .height))
+
+  pub holder-done : {w′ : List ℕ} {q r′ : Registers} (x : Value) (e : Effect) → a ≤ t .count → x ≡ valueIn (t .first) → e ≡ bodyEffect o start len x → q ≡ trying r (r .height - a) (r .depth) (r .used) (r .ok)
+      → Tried (affected code e) w q w′ r′ → Tried (execute code (WithBody n start len)) w r w′ r′
+  unfolding effectAt performed
+  holder-done {w′} {q} {r′} x e h ex ee eq d = exec-done code (WithBody n start len) a t g (ea .1) pops-holder et e h (ee ∙ (rw (← eo, ← (et .first), ex))) eq d
+
+-- ---- a literal, by its kind
+
+module _ {w w′ : List ℕ} {r r′ : Registers} (code : Code) (x : Literal) where
+  pub by-figure : (a : num.Number) → x ≡ Figure a → Tried (push (Number a)) w r w′ r′ → Tried (execute code x) w r w′ r′
+  unfolding execute provided popped effectAt performed affected pops
+  by-figure a e t = rw e (tried-as (rw (le-leb 0 (length (above (stackOf (slots w) (r .height)))) (omega arith), over-above (stackOf (slots w) (r .height)))) t)
+
+  pub by-name : (s l : ℕ) → x ≡ Name s l → Tried (table.utter s l) w r w′ r′ → Tried (execute code x) w r w′ r′
+  unfolding execute provided popped effectAt performed affected does worked pops table.utter
+  by-name s l e t = rw e (tried-as (rw (le-leb 0 (length (above (stackOf (slots w) (r .height)))) (omega arith), over-above (stackOf (slots w) (r .height)))) t)
+
+  pub by-text : (s n : ℕ) → x ≡ Text s → n ≡ s → Tried (spell code n) w r w′ r′ → Tried (execute code x) w r w′ r′
+  unfolding execute provided popped effectAt performed affected does worked pops
+  by-text s n e f t = rw (e, ← f) (tried-as (rw (le-leb 0 (length (above (stackOf (slots w) (r .height)))) (omega arith), over-above (stackOf (slots w) (r .height)))) t)
+
+  pub by-plain : (n : ℕ) → x ≡ Plain n → Tried (execute code (Plain n)) w r w′ r′ → Tried (execute code x) w r w′ r′
+  by-plain n e t = rw e t
+
+  pub by-holder : (n s l : ℕ) → x ≡ WithBody n s l → Tried (execute code (WithBody n s l)) w r w′ r′ → Tried (execute code x) w r w′ r′
+  by-holder n s l e t = rw e t
+
+pub sized-holder : (x : Literal) (n s l : ℕ) → SizedLiteral x → x ≡ WithBody n s l → s + l < 4294967296
+sized-holder x n s l h e = rw e at h
+
+-- ---- what follows
+
+pub back-good : {f : State → Option State} {w w₁ : List ℕ} {r q : Registers} → Busy w r → Tried f w r w₁ q → q .ok ≡ false → Good w₁ r
+back-good g t n = rw (t .back n) (omega arith)
+
+module _ {w w₁ w′ : List ℕ} {r q r′ : Registers} (code : Code) (x : Literal) (g : Busy w r) (t : Tried (execute code x) w r w₁ q) where
+  pub goes-on : q .ok ≡ true → Done settle w₁ q w′ r′ → Done (performs code x) w r w′ r′
+  unfolding performs executed answer
+  goes-on o d = record { good = d .good; does = d .does ∙ (rw (← (t .does), o)); keeps = d .keeps ∙ t .keeps; counted = d .counted ∙ t .counted }
+
+  pub goes-back : q .ok ≡ false → Done fault w₁ r w′ r′ → Done (performs code x) w r w′ r′
+  unfolding performs executed answer
+  goes-back o d = record { good = d .good; does = (rw (t .back o) at (d .does)) ∙ (rw (← (t .does), o)); keeps = d .keeps ∙ t .keeps; counted = d .counted }
+
+-- ---- passed over
+
+pub pass-off : (b : Bool) (x : Literal) → b ≡ false → false ≡ b && not (isUnmark0 x)
+pass-off b x e = rw e
+
+module _ (b : Bool) (x : Literal) (on : b ≡ true) where
+  pub pass-figure : (a : num.Number) → x ≡ Figure a → true ≡ b && not (isUnmark0 x)
+  unfolding isUnmark0
+  pass-figure a e = rw (on, e)
+
+  pub pass-name : (s l : ℕ) → x ≡ Name s l → true ≡ b && not (isUnmark0 x)
+  unfolding isUnmark0
+  pass-name s l e = rw (on, e)
+
+  pub pass-text : (s : ℕ) → x ≡ Text s → true ≡ b && not (isUnmark0 x)
+  unfolding isUnmark0
+  pass-text s e = rw (on, e)
+
+  pub pass-plain : (n : ℕ) → x ≡ Plain n → not (eqb n 192) ≡ b && not (isUnmark0 x)
+  unfolding isUnmark0
+  pass-plain n e = rw (on, e)
+
+  pub pass-holder : (n s l : ℕ) → x ≡ WithBody n s l → true ≡ b && not (isUnmark0 x)
+  unfolding isUnmark0
+  pass-holder n s l e = rw (on, e)
+
+pub pass-skips : (b s : Bool) (x : Literal) → b ≡ s && not (isUnmark0 x) → b ≡ true → s ≡ true
+pass-skips b true x e t = refl
+pass-skips b false x e t = sym e ∙ t
+
+-- ---- a step
+
+-- the literal that is due holds a body whose end is a word
+pub sized-due : (b : List ℕ) (at : ℕ) (d : Due) → length b ≤ 16777215 → Is (foundAt b at) d → SizedLiteral (d .literal)
+sized-due b at d h i = rw (i .literal) (sized (foundAt b at .literal) (length b) (omega arith) (found-inside b at))
+  where
+    sized : (x : Literal) (n : ℕ) → n < 4294967296 → HeldIn n x → SizedLiteral x
+    sized (Figure a) n l k = tt
+    sized (Name s m) n l k = tt
+    sized (Text s) n l k = tt
+    sized (Plain m) n l k = tt
+    sized (WithBody m s z) n l k = omega arith
+
+pub sized-here : (pre body : List ℕ) (o at : ℕ) (d : Due) → Short pre body → Is (foundAt (bytesOf (both pre body) o) at) d → SizedLiteral (d .literal)
+sized-here pre body o at d h i = sized-due (bytesOf (both pre body) o) at d (bytes-short pre body o h) i
+
+running-at : (w : List ℕ) (r : Registers) (c : Slot) → 0 < r .depth → c ≡ getD (slots w) (1752 + (r .depth - 1)) nil → (running (contextsOf (slots w) (r .depth)) .origin ≡ c .a) × (running (contextsOf (slots w) (r .depth)) .at ≡ c .b)
+unfolding running contextIn
+running-at w r c h e = (rw (contexts-at (slots w) (r .depth) c h e), rw (contexts-at (slots w) (r .depth) c h e))
+
+module _ {w w₁ : List ℕ} {r q : Registers} (pre body : List ℕ) (c : Slot) (d : Due) (n : ℕ) (b : Bool) (live : 0 < r .depth) (got : c ≡ getD (slots w) (1752 + (r .depth - 1)) nil)
+  (due : Is (foundAt (bytesOf (both pre body) (c .a)) (c .b)) d) (en : n ≡ d .next) (be : Begun n w r w₁ q) (eb : b ≡ q .skipping && not (isUnmark0 (d .literal))) where
+  is-step : step (both pre body) (abs w r) ≡ literalStep (both pre body) b (d .literal) (abs w₁ q)
+  unfolding step stepBy dueIn
+  is-step =
+      let p = running-at w r c live got in
+      let s : b ≡ r .skipping && not (isUnmark0 (d .literal)) = eb ∙ ap (λ (x : Bool). x && not (isUnmark0 (d .literal))) (be .skips) in
+      rw (p .0, p .1, ← (due .literal), ← (due .next), ← en, ← (be .does), ← s)
+
+  pub step-skip : {w′ : List ℕ} {r′ : Registers} → b ≡ true → Done skipped w₁ q w′ r′ → Stepped pre body w r w′ r′
+  unfolding literalStep
+  step-skip {w′} {r′} t z = record { good = z .good; does = z .does ∙ sym (rw t at is-step); keeps = z .keeps ∙ be .keeps; counted = z .counted ∙ be .counted }
+
+  pub step-do : {w′ : List ℕ} {r′ : Registers} → b ≡ false → Done (performs (both pre body) (d .literal)) w₁ q w′ r′ → Stepped pre body w r w′ r′
+  unfolding literalStep performs
+  step-do {w′} {r′} t z = record { good = z .good; does = z .does ∙ sym (rw t at is-step); keeps = z .keeps ∙ be .keeps; counted = z .counted ∙ be .counted }
+
+-- ---- a run
+
+run-turn : (code : Code) (n : ℕ) (s : State) → 0 < n → ended (s .contexts) ≡ false → run n code s ≡ run (n - 1) code (step code s)
+unfolding run
+run-turn code zero s h e = absurd (omega arith)
+run-turn code (suc n) s h e = let k : suc n - 1 ≡ n = omega arith in rw (e, k)
+
+not-ended : (m : List Slot) (d : ℕ) → 0 < d → ended (contextsOf m d) ≡ false
+unfolding ended
+not-ended m d h = rw (contexts-top m d h)
+
+module _ {R : State} (pre body : List ℕ) (n : ℕ) (w : List ℕ) (r : Registers) (inv : run n (both pre body) (abs w r) ≡ R) where
+  pub run-out : n ≤ 0 → abs w r ≡ R
+  unfolding run
+  run-out h = let z : n ≡ 0 = omega arith in rw z at inv
+
+  pub run-ended : 0 < n → r .depth ≡ 0 → abs w r ≡ R
+  unfolding run ended contextsOf
+  run-ended h e = let k : n ≡ suc (n - 1) = omega arith in rw e (rw (k, e) at inv)
+
+  pub run-on : (w′ : List ℕ) (r′ : Registers) → 0 < n → (r .depth ≡ 0 → ⊥) → Stepped pre body w r w′ r′ → run (n - 1) (both pre body) (abs w′ r′) ≡ R
+  run-on w′ r′ h nz d = (rw (d .does) (sym (run-turn (both pre body) n (abs w r) h (not-ended (slots w) (r .depth) (omega arith))))) ∙ inv
+
+pub run-aside : {A : List Value} (pre body w : List ℕ) (r : Registers) (w′ : List ℕ) (r′ : Registers) → aside w ≡ A → Stepped pre body w r w′ r′ → aside w′ ≡ A
+run-aside pre body w r w′ r′ e d = d .keeps ∙ e

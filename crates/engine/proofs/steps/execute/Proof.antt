@@ -1,0 +1,32 @@
+-- `steps::execute` meets its contract. Assumes nothing.
+use borrow.Author.Needs.{needs}
+use Rattle.engine.proofs.Stepping.{by-figure, by-name, by-text, by-plain, by-holder, sized-holder}
+use Prim.Native.Nat.{_-_}
+use Rattle.engine.proofs.steps.execute.Statement.{statement}
+use Rattle.engine.proofs.steps.execute.Tie as tie
+
+pub execute-spec : {M : Type 1} → statement M
+execute-spec =
+    tie.close
+    (tie.spec
+    (λ c. search needs)
+    (λ c κs. search needs)
+    (λ c. search needs)
+    (λ c κs. search needs)
+    (λ c. search needs)
+    (λ c κs. search needs)
+    (λ c κs. search needs)
+    (λ c. search needs)
+    (λ c κs. search needs)
+    (λ c. search needs)
+    (λ c κs. (search needs, search needs, search (needs, sized-holder)))
+    (λ c. search needs)
+    (λ c. search (needs, by-figure))
+    (λ c. search needs)
+    (λ c. search (needs, by-name))
+    (λ c. search needs)
+    (λ c. search (needs, by-text))
+    (λ c. search needs)
+    (λ c. search (needs, by-plain))
+    (λ c. search needs)
+    (λ c. search (needs, by-holder)))
