@@ -129,6 +129,7 @@ pub fn effect(o: StackOp, x: Value, y: Value) -> Effect
         StackOp::Unmark0 => Effect::Acts(Next::Remove { count: 0 }),
         // <x1> .. <xn> COUNT → <x1> .. <xn> <n>
         StackOp::Count => Effect::Acts(Next::Tally),
+        // NOP →
         StackOp::Nop => Effect::Acts(Next::Works(Work::Nothing)),
         StackOp::Error => error(x, y),
     }
