@@ -1,6 +1,6 @@
 -- A number that stands nowhere in the table of operators: what a `match` on its numbers, in the table's order, tells where none is met.
 -- Assumes nothing.
-use mathlib.Core.Path.{_≡_, refl, _∙_}
+use mathlib.Core.Path.{_≡_, refl}
 use mathlib.Core.List.{List, [], _∷_}
 use Prim.Native.Nat.{ℕ}
 use borrow.Author.Tests.{ne-eqb}

@@ -1,10 +1,10 @@
 -- What is read of an operand, and what an operator makes of it. In order: a value by its kind; a Cardinal; the definitions of `machine`
--- on a value that was read; an arm of a family. Assumes nothing.
-use mathlib.Core.Path.{_≡_, refl, sym, ap, _∙_}
+-- on a value that was read; a test of operands. Assumes nothing.
+use mathlib.Core.Path.{_≡_, refl}
 use mathlib.Core.Bool.{Bool, true, false, cond}
 use mathlib.Core.List.{List, [], _∷_}
-use mathlib.Core.Option.{Option, none, some}
-use Prim.Native.Nat.{ℕ, suc, _-_, _≤_, _<_}
+use mathlib.Core.Option.{none, some}
+use Prim.Native.Nat.{ℕ, _≤_, _<_}
 use native.Mathlib.Omega.{arith}
 use borrow.Author.Tests.{eq-eqb, ne-eqb, le-leb, lt-leb}
 use denote.Enum.Declared.{tagOf}
@@ -26,7 +26,7 @@ use Rattle.operators.specs.declared.Card.the-variants.{No, Is}
 use Rattle.operators.specs.declared.Figure.{Figure}
 use Rattle.operators.specs.declared.Figure.the-variants.{Other, Of}
 use Rattle.operators.specs.Operands.{cardOf, Within, figureOf}
-use Rattle.operators.specs.Sizes.{Small, Sized}
+use Rattle.operators.specs.Sizes.{Small}
 
 -- ---- a value by its kind: 0 a number, 1 an identifier, 2 a vector, 3 an operator
 
@@ -131,8 +131,3 @@ when-so s t h = rw h
 
 pub when-not : {b : Bool} (s t : Effect) → b ≡ false → t ≡ cond b s t
 when-not s t h = rw h
-
--- ---- an arm of a family: o is the operator k
-
-pub by-arm : {A : Type 0} {o k : A} {r : Effect} (f : A → Effect) → o ≡ k → (r ≡ f k) × Sized r → (r ≡ f o) × Sized r
-by-arm f e h = rw e h

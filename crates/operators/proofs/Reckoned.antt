@@ -1,7 +1,6 @@
 -- The arithmetic operators by their arity: of one number, or of two. Assumes nothing.
-use mathlib.Core.Path.{_≡_, refl, sym, _∙_}
+use mathlib.Core.Path.{_≡_, refl, _∙_}
 use mathlib.Core.Bool.{Bool, true, false, cond}
-use Prim.Native.Nat.{ℕ}
 use borrow.Author.Tests.{eq-eqb, ne-eqb}
 use lib.Dec.{eqb}
 use Rattle.numbers.specs.declared.Number as num
@@ -10,7 +9,6 @@ use Rattle.machine.specs.declared.Value.{Value}
 use Rattle.machine.specs.declared.Value.the-variants.{Number, Identifier, Vector, Operator}
 use Rattle.machine.specs.declared.ArithOp.{ArithOp}
 use Rattle.machine.specs.declared.ArithOp.the-variants.{Add, Sub, Neg, Abs, Floor, Ceiling, Trunc, Round, Mul, Div, Mod, Rem}
-use Rattle.machine.specs.declared.Effect.{Effect}
 use Rattle.machine.specs.declared.Effect.the-variants.{Fail}
 use Rattle.machine.specs.Operand.{asNumber, answered}
 use Rattle.machine.specs.Ops.Arith.{arithArity, ofOne, ofTwo, arithEffect}

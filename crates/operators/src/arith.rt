@@ -51,6 +51,7 @@ fn reckon(o: ArithOp, a: Number, b: Number) -> Answer
     }
 }
 
+// An operator on one number leaves y unread.
 pub fn effect(o: ArithOp, x: Value, y: Value) -> Effect
     ensures { λ r. ⌜ (r ≡ arithEffect o x y) × Sized r ⌝ }
 {

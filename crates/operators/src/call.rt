@@ -17,7 +17,12 @@ fn called(x: Value) -> Effect
             start,
             len,
             first,
-        } => Effect::Acts(Next::Call { origin, start, len, first }),
+        } => Effect::Acts(Next::Call {
+            origin,
+            start,
+            len,
+            first,
+        }),
         _ => Effect::Fail,
     }
 }

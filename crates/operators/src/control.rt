@@ -35,7 +35,11 @@ fn if_so(start: u32, len: u32, x: Value) -> Effect
             if i == 0 {
                 return Effect::Acts(Next::Works(Work::Nothing));
             }
-            Effect::Acts(Next::Inline { start, len, owes: false })
+            Effect::Acts(Next::Inline {
+                start,
+                len,
+                owes: false,
+            })
         }
     }
 }
@@ -51,7 +55,11 @@ fn if_else(start: u32, len: u32, x: Value) -> Effect
             if i == 0 {
                 return Effect::Gives(operands::natural(1));
             }
-            Effect::Acts(Next::Inline { start, len, owes: true })
+            Effect::Acts(Next::Inline {
+                start,
+                len,
+                owes: true,
+            })
         }
     }
 }
@@ -64,7 +72,11 @@ pub fn effect(o: BodyOp, start: u32, len: u32, x: Value) -> Effect
         // {..} MAKESIMPLECO → <o>
         BodyOp::MakeSimpleCo => Effect::Acts(Next::Works(Work::Compose { start, len })),
         // {..} DOSAVESIMPLEBODY →
-        BodyOp::DoSaveSimpleBody => Effect::Acts(Next::Inline { start, len, owes: false }),
+        BodyOp::DoSaveSimpleBody => Effect::Acts(Next::Inline {
+            start,
+            len,
+            owes: false,
+        }),
         BodyOp::If => if_so(start, len, x),
         BodyOp::IfElse => if_else(start, len, x),
         // IFCOPY, CORRECT

@@ -37,7 +37,7 @@ pub fn arity_of(o: Op) -> usize
     match o {
         Op::OnVectors(k) => vector::arity(k),
         Op::OnFrame(k) => frame::arity(k),
-        Op::Calls(k) => 1,
+        Op::Calls(_) => 1,
         Op::OnStack(k) => stack::arity(k),
         Op::Tests(k) => test::arity(k),
         Op::Reckons(k) => arith::arity(k),

@@ -10,6 +10,7 @@ use machine::StackOp;
 use machine::TestOp;
 use machine::VectorOp;
 
+// A new number goes last, as in the table `operators` of `machine`: the proof of `_` goes by its order.
 pub fn op_of(number: u16) -> Op
     ensures { λ r. ⌜ r ≡ opOf number ⌝ }
 {
@@ -57,6 +58,7 @@ pub fn op_of(number: u16) -> Op
     }
 }
 
+// An operator that holds a body.
 pub fn body_op_of(number: u16) -> BodyOp
     ensures { λ r. ⌜ r ≡ bodyOpOf number ⌝ }
 {

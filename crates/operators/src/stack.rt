@@ -1,6 +1,7 @@
 // 2.4.6: operators on the stack.
 ghost use mathlib.Core.Path.{_≡_};
 ghost use Prim.Native.Nat.{_≤_};
+ghost use Rattle.machine.specs.declared.Value.{Value};
 ghost use Rattle.machine.specs.declared.StackOp.the-variants.{Copy, Roll, Mark, Unmark, Error};
 ghost use Rattle.machine.specs.Ops.Stack.{stackArity, mildCode, stackEffect};
 ghost use Rattle.operators.specs.Sizes.{Sized};
@@ -31,8 +32,8 @@ pub fn arity(o: StackOp) -> usize
 }
 
 // <x1> .. <xn> <n> COPY → <x1> .. <xn> <x1> .. <xn>
-fn copy(x: Value, y: Value) -> Effect
-    ensures { λ r. ⌜ (r ≡ stackEffect Copy x y) × Sized r ⌝ }
+fn copy(x: Value) -> Effect
+    ensures { λ r. ⌜ ((y : Value) → r ≡ stackEffect Copy x y) × Sized r ⌝ }
 {
     match operands::cardinal(x) {
         Card::No => Effect::Fail,
@@ -59,8 +60,8 @@ fn roll(x: Value, y: Value) -> Effect
 }
 
 // <x1> .. <xn> <n> MARK → <mark> <x1> .. <xn>
-fn mark(x: Value, y: Value) -> Effect
-    ensures { λ r. ⌜ (r ≡ stackEffect Mark x y) × Sized r ⌝ }
+fn mark(x: Value) -> Effect
+    ensures { λ r. ⌜ ((y : Value) → r ≡ stackEffect Mark x y) × Sized r ⌝ }
 {
     match operands::cardinal(x) {
         Card::No => Effect::Fail,
@@ -69,8 +70,8 @@ fn mark(x: Value, y: Value) -> Effect
 }
 
 // <mark> <x1> .. <xn> <n> UNMARK → <x1> .. <xn>
-fn unmark(x: Value, y: Value) -> Effect
-    ensures { λ r. ⌜ (r ≡ stackEffect Unmark x y) × Sized r ⌝ }
+fn unmark(x: Value) -> Effect
+    ensures { λ r. ⌜ ((y : Value) → r ≡ stackEffect Unmark x y) × Sized r ⌝ }
 {
     match operands::cardinal(x) {
         Card::No => Effect::Fail,
@@ -116,18 +117,19 @@ pub fn effect(o: StackOp, x: Value, y: Value) -> Effect
     match o {
         // <x> POP →
         StackOp::Pop => Effect::Acts(Next::Works(Work::Nothing)),
-        StackOp::Copy => copy(x, y),
+        StackOp::Copy => copy(x),
         // <x> DUP → <x> <x>
         StackOp::Dup => Effect::Acts(Next::Works(Work::Repeat { count: 1 })),
         StackOp::Roll => roll(x, y),
         // <x> <y> EXCH → <y> <x>
         StackOp::Exch => Effect::Acts(Next::Works(Work::Turn { depth: 2, first: 1 })),
-        StackOp::Mark => mark(x, y),
-        StackOp::Unmark => unmark(x, y),
+        StackOp::Mark => mark(x),
+        StackOp::Unmark => unmark(x),
         // <mark> UNMARK0 →
         StackOp::Unmark0 => Effect::Acts(Next::Remove { count: 0 }),
         // <x1> .. <xn> COUNT → <x1> .. <xn> <n>
         StackOp::Count => Effect::Acts(Next::Tally),
+        // NOP →
         StackOp::Nop => Effect::Acts(Next::Works(Work::Nothing)),
         StackOp::Error => error(x, y),
     }

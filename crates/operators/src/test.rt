@@ -2,6 +2,7 @@
 ghost use mathlib.Core.Path.{_≡_};
 ghost use Prim.Native.Nat.{_≤_};
 ghost use Rattle.numbers.specs.Arith.{orderOf};
+ghost use Rattle.machine.specs.declared.Value.{Value};
 ghost use Rattle.machine.specs.declared.TestOp.the-variants.{Eq, Gt, Ge, And, Or, Not};
 ghost use Rattle.machine.specs.Ops.Test.{testArity, isLess, isEqual, typeOf, testEffect};
 ghost use Rattle.operators.specs.Sizes.{Sized};
@@ -138,8 +139,8 @@ fn or(x: Value, y: Value) -> Effect
 }
 
 // <b> NOT → <c>
-fn not(x: Value, y: Value) -> Effect
-    ensures { λ r. ⌜ (r ≡ testEffect Not x y) × Sized r ⌝ }
+fn not(x: Value) -> Effect
+    ensures { λ r. ⌜ ((y : Value) → r ≡ testEffect Not x y) × Sized r ⌝ }
 {
     match operands::cardinal(x) {
         Card::No => Effect::Fail,
@@ -181,7 +182,7 @@ pub fn effect(o: TestOp, x: Value, y: Value) -> Effect
         TestOp::Ge => ge(x, y),
         TestOp::And => and(x, y),
         TestOp::Or => or(x, y),
-        TestOp::Not => not(x, y),
+        TestOp::Not => not(x),
         // <a> TYPE → <c>
         TestOp::TypeOf => Effect::Gives(operands::natural(type_number(x))),
     }

@@ -1,6 +1,7 @@
 // 2.4.3: operators on vectors.
 ghost use mathlib.Core.Path.{_≡_};
 ghost use Prim.Native.Nat.{_≤_};
+ghost use Rattle.machine.specs.declared.Value.{Value};
 ghost use Rattle.machine.specs.declared.VectorOp.the-variants.{Get, MakeVecLu, MakeVec, Shape};
 ghost use Rattle.machine.specs.Ops.Vector.{vectorArity, vectorEffect};
 ghost use Rattle.operators.specs.Sizes.{Small, Sized};
@@ -42,7 +43,9 @@ fn get(x: Value, y: Value) -> Effect
                 if j >= lower + count {
                     return Effect::Fail;
                 }
-                Effect::Acts(Next::Works(Work::Element { cell: first + (j - lower) }))
+                Effect::Acts(Next::Works(Work::Element {
+                    cell: first + (j - lower),
+                }))
             }
             _ => Effect::Fail,
         },
@@ -61,15 +64,18 @@ fn make_vec_lu(x: Value, y: Value) -> Effect
                 if l > u + 1 {
                     return Effect::Fail;
                 }
-                Effect::Acts(Next::Works(Work::Build { lower: l, count: u + 1 - l }))
+                Effect::Acts(Next::Works(Work::Build {
+                    lower: l,
+                    count: u + 1 - l,
+                }))
             }
         },
     }
 }
 
 // <x1> .. <xn> <n> MAKEVEC → <v>
-fn make_vec(x: Value, y: Value) -> Effect
-    ensures { λ r. ⌜ (r ≡ vectorEffect MakeVec x y) × Sized r ⌝ }
+fn make_vec(x: Value) -> Effect
+    ensures { λ r. ⌜ ((y : Value) → r ≡ vectorEffect MakeVec x y) × Sized r ⌝ }
 {
     match operands::cardinal(x) {
         Card::No => Effect::Fail,
@@ -78,9 +84,9 @@ fn make_vec(x: Value, y: Value) -> Effect
 }
 
 // <v> SHAPE → <l> <n>
-fn shape(x: Value, y: Value) -> Effect
+fn shape(x: Value) -> Effect
     requires { ⌜ Small x ⌝ }
-    ensures { λ r. ⌜ (r ≡ vectorEffect Shape x y) × Sized r ⌝ }
+    ensures { λ r. ⌜ ((y : Value) → r ≡ vectorEffect Shape x y) × Sized r ⌝ }
 {
     match x {
         Value::Vector {
@@ -99,7 +105,7 @@ pub fn effect(o: VectorOp, x: Value, y: Value) -> Effect
     match o {
         VectorOp::Get => get(x, y),
         VectorOp::MakeVecLu => make_vec_lu(x, y),
-        VectorOp::MakeVec => make_vec(x, y),
-        VectorOp::Shape => shape(x, y),
+        VectorOp::MakeVec => make_vec(x),
+        VectorOp::Shape => shape(x),
     }
 }

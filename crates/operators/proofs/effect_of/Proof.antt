@@ -2,8 +2,6 @@
 use borrow.Author.Needs.{needs}
 use mathlib.Core.Path.{refl}
 use Rattle.machine.specs.Operators.{effectOf}
-use Rattle.machine.specs.declared.Op.{Op}
-use Rattle.operators.proofs.Reading.{by-arm}
 use Rattle.operators.proofs.effect_of.Statement.{statement}
 use Rattle.operators.proofs.effect_of.Tie as tie
 
@@ -25,10 +23,10 @@ effect-of-spec =
     (λ c. search needs)
     (λ c κs. search needs)
     (λ c. search needs)
-    (λ c. by-arm (λ (o : Op). effectOf o (c .before .before .before .before .args .x) (c .before .before .before .before .args .y)) (c .before .before .o .given .1) (c .effect .ensures))
-    (λ c. by-arm (λ (o : Op). effectOf o (c .before .before .before .before .args .x) (c .before .before .before .before .args .y)) (c .before .before .o2 .given .1) (c .effect2 .ensures))
-    (λ c. by-arm (λ (o : Op). effectOf o (c .before .before .before .before .args .x) (c .before .before .before .before .args .y)) (c .before .before .o3 .given .1) (c .effect3 .ensures))
-    (λ c. by-arm (λ (o : Op). effectOf o (c .before .before .before .before .args .x) (c .before .before .before .before .args .y)) (c .before .before .o4 .given .1) (c .effect4 .ensures))
-    (λ c. by-arm (λ (o : Op). effectOf o (c .before .before .before .before .args .x) (c .before .before .before .before .args .y)) (c .before .before .o5 .given .1) (c .effect5 .ensures))
-    (λ c. by-arm (λ (o : Op). effectOf o (c .before .before .before .before .args .x) (c .before .before .before .before .args .y)) (c .before .before .o6 .given .1) (c .effect6 .ensures))
-    (λ c. by-arm (λ (o : Op). effectOf o (c .before .before .args .x) (c .before .before .args .y)) (c .enum-told .given .1) (refl, tt)))
+    (λ c. rw (c .before .before .o .given .1) (c .effect .ensures))
+    (λ c. rw (c .before .before .o2 .given .1) (c .effect2 .ensures))
+    (λ c. rw (c .before .before .o3 .given .1) (c .effect3 .ensures))
+    (λ c. rw (c .before .before .o4 .given .1) (c .effect4 .ensures))
+    (λ c. rw (c .before .before .o5 .given .1) (c .effect5 .ensures))
+    (λ c. rw (c .before .before .o6 .given .1) (c .effect6 .ensures))
+    (λ c. rw (c .enum-told .given .1) (refl, tt)))

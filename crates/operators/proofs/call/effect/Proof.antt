@@ -1,8 +1,6 @@
 -- `call::effect` meets its contract. Assumes nothing.
 use borrow.Author.Needs.{needs}
 use Rattle.machine.specs.Ops.Call.{called, callEffect}
-use Rattle.machine.specs.declared.CallOp.{CallOp}
-use Rattle.operators.proofs.Reading.{by-arm}
 use Rattle.operators.proofs.call.effect.Statement.{statement}
 use Rattle.operators.proofs.call.effect.Tie as tie
 
@@ -17,6 +15,6 @@ effect-spec =
     (λ c κs. search needs)
     (λ c. search needs)
     (λ c κs. search needs)
-    (λ c. by-arm (λ (o : CallOp). callEffect o (c .before .before .before .args .x)) (c .before .enum-told .given .1) (c .called .ensures))
-    (λ c. by-arm (λ (o : CallOp). callEffect o (c .before .before .before .args .x)) (c .before .enum-told2 .given .1) (c .called2 .ensures))
-    (λ c. by-arm (λ (o : CallOp). callEffect o (c .before .before .before .args .x)) (c .before .enum-told3 .given .1) (c .called3 .ensures)))
+    (λ c. rw (c .before .enum-told .given .1) (c .called .ensures))
+    (λ c. rw (c .before .enum-told2 .given .1) (c .called2 .ensures))
+    (λ c. rw (c .before .enum-told3 .given .1) (c .called3 .ensures)))

@@ -2,8 +2,6 @@
 use borrow.Author.Needs.{needs}
 use mathlib.Core.Path.{refl}
 use Rattle.machine.specs.Ops.Control.{bodyEffect}
-use Rattle.machine.specs.declared.BodyOp.{BodyOp}
-use Rattle.operators.proofs.Reading.{by-arm}
 use Rattle.operators.proofs.control.effect.Statement.{statement}
 use Rattle.operators.proofs.control.effect.Tie as tie
 
@@ -19,8 +17,8 @@ effect-spec =
     (λ c. search needs)
     (λ c κs. search needs)
     (λ c. search needs)
-    (λ c. by-arm (λ (o : BodyOp). bodyEffect o (c .before .before .args .start) (c .before .before .args .len) (c .before .before .args .x)) (c .enum-told .given .1) (refl, tt))
-    (λ c. by-arm (λ (o : BodyOp). bodyEffect o (c .before .before .args .start) (c .before .before .args .len) (c .before .before .args .x)) (c .enum-told2 .given .1) (refl, c .before .before .pre))
-    (λ c. by-arm (λ (o : BodyOp). bodyEffect o (c .before .before .before .args .start) (c .before .before .before .args .len) (c .before .before .before .args .x)) (c .before .enum-told3 .given .1) (c .if-so .ensures))
-    (λ c. by-arm (λ (o : BodyOp). bodyEffect o (c .before .before .before .args .start) (c .before .before .before .args .len) (c .before .before .before .args .x)) (c .before .enum-told4 .given .1) (c .if-else .ensures))
-    (λ c. by-arm (λ (o : BodyOp). bodyEffect o (c .before .before .args .start) (c .before .before .args .len) (c .before .before .args .x)) (c .enum-told5 .given .1) (refl, tt)))
+    (λ c. rw (c .enum-told .given .1) (refl, tt))
+    (λ c. rw (c .enum-told2 .given .1) (refl, c .before .before .pre))
+    (λ c. rw (c .before .enum-told3 .given .1) (c .if-so .ensures))
+    (λ c. rw (c .before .enum-told4 .given .1) (c .if-else .ensures))
+    (λ c. rw (c .enum-told5 .given .1) (refl, tt)))

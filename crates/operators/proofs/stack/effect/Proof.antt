@@ -2,8 +2,6 @@
 use borrow.Author.Needs.{needs}
 use mathlib.Core.Path.{refl}
 use Rattle.machine.specs.Ops.Stack.{stackEffect}
-use Rattle.machine.specs.declared.StackOp.{StackOp}
-use Rattle.operators.proofs.Reading.{by-arm}
 use Rattle.operators.proofs.stack.effect.Statement.{statement}
 use Rattle.operators.proofs.stack.effect.Tie as tie
 
@@ -28,14 +26,14 @@ effect-spec =
     (λ c. search needs)
     (λ c. search needs)
     (λ c κs. search needs)
-    (λ c. by-arm (λ (o : StackOp). stackEffect o (c .before .before .args .x) (c .before .before .args .y)) (c .enum-told .given .1) (refl, tt))
-    (λ c. by-arm (λ (o : StackOp). stackEffect o (c .before .before .before .args .x) (c .before .before .before .args .y)) (c .before .enum-told2 .given .1) (c .copy .ensures))
-    (λ c. by-arm (λ (o : StackOp). stackEffect o (c .before .before .args .x) (c .before .before .args .y)) (c .enum-told3 .given .1) (refl, tt))
-    (λ c. by-arm (λ (o : StackOp). stackEffect o (c .before .before .before .args .x) (c .before .before .before .args .y)) (c .before .enum-told4 .given .1) (c .roll .ensures))
-    (λ c. by-arm (λ (o : StackOp). stackEffect o (c .before .before .args .x) (c .before .before .args .y)) (c .enum-told5 .given .1) (refl, tt))
-    (λ c. by-arm (λ (o : StackOp). stackEffect o (c .before .before .before .args .x) (c .before .before .before .args .y)) (c .before .enum-told6 .given .1) (c .mark .ensures))
-    (λ c. by-arm (λ (o : StackOp). stackEffect o (c .before .before .before .args .x) (c .before .before .before .args .y)) (c .before .enum-told7 .given .1) (c .unmark .ensures))
-    (λ c. by-arm (λ (o : StackOp). stackEffect o (c .before .before .args .x) (c .before .before .args .y)) (c .enum-told8 .given .1) (refl, tt))
-    (λ c. by-arm (λ (o : StackOp). stackEffect o (c .before .before .args .x) (c .before .before .args .y)) (c .enum-told9 .given .1) (refl, tt))
-    (λ c. by-arm (λ (o : StackOp). stackEffect o (c .before .before .args .x) (c .before .before .args .y)) (c .enum-told10 .given .1) (refl, tt))
-    (λ c. by-arm (λ (o : StackOp). stackEffect o (c .before .before .before .args .x) (c .before .before .before .args .y)) (c .before .enum-told11 .given .1) (c .error .ensures)))
+    (λ c. rw (c .enum-told .given .1) (refl, tt))
+    (λ c. rw (c .before .enum-told2 .given .1) (c .copy .ensures .0 (c .before .before .before .args .y), c .copy .ensures .1))
+    (λ c. rw (c .enum-told3 .given .1) (refl, tt))
+    (λ c. rw (c .before .enum-told4 .given .1) (c .roll .ensures))
+    (λ c. rw (c .enum-told5 .given .1) (refl, tt))
+    (λ c. rw (c .before .enum-told6 .given .1) (c .mark .ensures .0 (c .before .before .before .args .y), c .mark .ensures .1))
+    (λ c. rw (c .before .enum-told7 .given .1) (c .unmark .ensures .0 (c .before .before .before .args .y), c .unmark .ensures .1))
+    (λ c. rw (c .enum-told8 .given .1) (refl, tt))
+    (λ c. rw (c .enum-told9 .given .1) (refl, tt))
+    (λ c. rw (c .enum-told10 .given .1) (refl, tt))
+    (λ c. rw (c .before .enum-told11 .given .1) (c .error .ensures)))

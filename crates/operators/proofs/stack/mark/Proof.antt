@@ -13,5 +13,5 @@ mark-spec =
     (λ c κs. search needs)
     (λ c. search needs)
     (λ c. search needs)
-    (λ c. (no-card _ _ (c .before .before .cardinal .ensures .0) (c .enum-told .given .1), tt))
-    (λ c. (is-card _ _ (c .before .before .before .cardinal .ensures .0) (c .before .n .given .1), tt)))
+    (λ c. (λ y. no-card _ _ (c .before .before .cardinal .ensures .0) (c .enum-told .given .1), tt))
+    (λ c. (λ y. is-card _ _ (c .before .before .before .cardinal .ensures .0) (c .before .n .given .1), tt)))

@@ -16,5 +16,5 @@ not-spec =
     (λ c. search needs)
     (λ c. search needs)
     (λ c κs. search needs)
-    (λ c. (no-card _ _ (c .before .before .cardinal .ensures .0) (c .enum-told .given .1), tt))
-    (λ c. (c .whether .ensures .0 ∙ is-card _ _ (c .before .before .before .before .cardinal .ensures .0) (c .before .before .b .given .1), c .whether .ensures .1)))
+    (λ c. (λ y. no-card _ _ (c .before .before .cardinal .ensures .0) (c .enum-told .given .1), tt))
+    (λ c. (λ y. c .whether .ensures .0 ∙ is-card _ _ (c .before .before .before .before .cardinal .ensures .0) (c .before .before .b .given .1), c .whether .ensures .1)))

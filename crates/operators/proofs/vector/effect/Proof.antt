@@ -1,8 +1,5 @@
 -- `vector::effect` meets its contract. Assumes nothing.
 use borrow.Author.Needs.{needs}
-use Rattle.machine.specs.Ops.Vector.{vectorEffect}
-use Rattle.machine.specs.declared.VectorOp.{VectorOp}
-use Rattle.operators.proofs.Reading.{by-arm}
 use Rattle.operators.proofs.vector.effect.Statement.{statement}
 use Rattle.operators.proofs.vector.effect.Tie as tie
 
@@ -18,7 +15,7 @@ effect-spec =
     (λ c κs. search needs)
     (λ c. search needs)
     (λ c κs. search needs)
-    (λ c. by-arm (λ (o : VectorOp). vectorEffect o (c .before .before .before .args .x) (c .before .before .before .args .y)) (c .before .enum-told .given .1) (c .get .ensures))
-    (λ c. by-arm (λ (o : VectorOp). vectorEffect o (c .before .before .before .args .x) (c .before .before .before .args .y)) (c .before .enum-told2 .given .1) (c .make-vec-lu .ensures))
-    (λ c. by-arm (λ (o : VectorOp). vectorEffect o (c .before .before .before .args .x) (c .before .before .before .args .y)) (c .before .enum-told3 .given .1) (c .make-vec .ensures))
-    (λ c. by-arm (λ (o : VectorOp). vectorEffect o (c .before .before .before .args .x) (c .before .before .before .args .y)) (c .before .enum-told4 .given .1) (c .shape .ensures)))
+    (λ c. rw (c .before .enum-told .given .1) (c .get .ensures))
+    (λ c. rw (c .before .enum-told2 .given .1) (c .make-vec-lu .ensures))
+    (λ c. rw (c .before .enum-told3 .given .1) (c .make-vec .ensures .0 (c .before .before .before .args .y), c .make-vec .ensures .1))
+    (λ c. rw (c .before .enum-told4 .given .1) (c .shape .ensures .0 (c .before .before .before .args .y), c .shape .ensures .1)))

@@ -14,5 +14,5 @@ shape-spec =
     (λ c. search needs)
     (λ c κs. small-vector (c .before .before .before .pre) (c .before .x .given .1) .1)
     (λ c κs. small-vector (c .before .before .before .before .pre) (c .before .before .x .given .1) .2)
-    (λ c. (rw (c .before .natural .ensures, c .natural2 .ensures) (is-vector _ (c .before .before .before .x .given .1)), tt))
-    (λ c. (no-vector (c .before .args .x) _ (c .match .keys2), tt)))
+    (λ c. (λ y. rw (c .before .natural .ensures, c .natural2 .ensures) (is-vector _ (c .before .before .before .x .given .1)), tt))
+    (λ c. (λ y. no-vector (c .before .args .x) _ (c .match .keys2), tt)))
