@@ -59,9 +59,9 @@ pub fn clear(w: &mut [u8], n: usize)
     requires { ⌜ n ≤ length (now w) ⌝ }
     ensures { λ _. ⌜ now (w .exit) ≡ zeroed n (now (w .entry)) ⌝ }
 {
-    let mut i: usize = 0;
-    while i < n {
-        w[i] = 0;
-        i += 1;
+    let mut at: usize = 0;
+    while at < n {
+        w[at] = 0;
+        at += 1;
     }
 }

@@ -23,7 +23,7 @@ same-text-spec =
     μ-loop
     (λ c κs. search needs)
     (λ c κs. search needs)
-    (λ c. other-size (dataAt (both (c .before .before .before .before .before .args .pre .now) (c .before .before .before .before .before .args .body .now)) (c .before .before .before .before .before .args .o1) (c .before .before .before .before .before .args .s1)) (dataAt (both (c .before .before .before .before .before .args .pre .now) (c .before .before .before .before .before .args .body .now)) (c .before .before .before .before .before .args .o2) (c .before .before .before .before .before .args .s2)) (λ e. c .if1 .taken (c .before .before .size-of .ensures ∙ e ∙ sym (c .before .size-of2 .ensures))))
+    (λ c. other-size (dataAt (both (c .before .before .before .before .before .args .pre .now) (c .before .before .before .before .before .args .body .now)) (c .before .before .before .before .before .args .o1) (c .before .before .before .before .before .args .s1)) (dataAt (both (c .before .before .before .before .before .args .pre .now) (c .before .before .before .before .before .args .body .now)) (c .before .before .before .before .before .args .o2) (c .before .before .before .before .before .args .s2)) (λ e. c .if1 .taken (omega (arith, e, c .before .before .size-of .ensures, c .before .size-of2 .ensures))))
     (λ c. refl)
     (λ c κs. omega (arith, c .before .before .before .before .size-of .ensures))
     (λ c κs. search needs)

@@ -5,6 +5,9 @@ use Rattle.state.proofs.Charging.{build-short, build-few, build-full, b
 use Rattle.state.proofs.cells.build.Statement.{statement}
 use Rattle.state.proofs.cells.build.Tie as tie
 
+returns-4 : tie.Need-returns-4
+returns-4 c = search (needs, build-yes)
+
 pub build-spec : {M : Type 1} → statement M
 build-spec =
     tie.close
@@ -28,7 +31,7 @@ build-spec =
     (λ c. search needs)
     (λ c. search needs)
     (λ c. search needs)
-    (λ c. search (needs, build-yes))
+    returns-4
     (λ c κs. search needs)
     (λ c. search needs)
     (λ c. search (needs, build-few)))

@@ -10,10 +10,10 @@ use Rattle.table.proofs.slots.clear.Statement.{statement}
 use Rattle.table.proofs.slots.clear.Tie as tie
 
 abbrev Inv-loop : tie.InvT-loop
-Inv-loop w₀ n i₀ w i = (i ≤ n) × (length w ≡ length w₀) × (w ≡ zeroed i w₀)
+Inv-loop w₀ n at₀ w at = (at ≤ n) × (length w ≡ length w₀) × (w ≡ zeroed at w₀)
 
 abbrev μ-loop : tie.MeasureT-loop
-μ-loop w₀ n i₀ w i = n - i
+μ-loop w₀ n at₀ w at = n - at
 
 loop-holds : tie.Need-loop-holds Inv-loop μ-loop
 unfolding zeroed
@@ -21,7 +21,7 @@ loop-holds c = search needs
 
 loop-again : tie.Need-loop-again Inv-loop μ-loop
 unfolding zeroed
-loop-again c = (search needs, search needs, rw (c .before .loop .inv .2) (fill-more (c .before .loop .i) 0 (c .before .before .args .w .now) (omega arith)))
+loop-again c = (search needs, search needs, rw (c .before .loop .inv .2) (fill-more (c .before .loop .at) 0 (c .before .before .args .w .now) (omega arith)))
 
 pub clear-spec : {M : Type 1} → statement M
 clear-spec =
@@ -35,4 +35,4 @@ clear-spec =
     (λ c. search needs)
     loop-again
     (λ c. search needs)
-    (λ c. let e : c .before .loop .i ≡ c .before .before .args .n = omega arith in rw (← e) (c .before .loop .inv .2)))
+    (λ c. let e : c .before .loop .at ≡ c .before .before .args .n = omega arith in rw (← e) (c .before .loop .inv .2)))
