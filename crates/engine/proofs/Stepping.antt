@@ -214,7 +214,7 @@ unfolding running contextIn
 running-at w r c h e = (rw (contexts-at (slots w) (r .depth) c h e), rw (contexts-at (slots w) (r .depth) c h e))
 
 module _ {w w₁ : List ℕ} {r q : Registers} (pre body : List ℕ) (c : Slot) (d : Due) (n : ℕ) (b : Bool) (live : 0 < r .depth) (got : c ≡ getD (slots w) (1752 + (r .depth - 1)) nil)
-  (due : Is (foundAt (bytesOf (both pre body) (c .a)) (c .b)) d) (en : n ≡ d .next) (be : Begun n w r w₁ q) (eb : b ≡ q .skipping && not (isUnmark0 (d .literal))) where
+    (due : Is (foundAt (bytesOf (both pre body) (c .a)) (c .b)) d) (en : n ≡ d .next) (be : Begun n w r w₁ q) (eb : b ≡ q .skipping && not (isUnmark0 (d .literal))) where
   is-step : step (both pre body) (abs w r) ≡ literalStep (both pre body) b (d .literal) (abs w₁ q)
   unfolding step stepBy dueIn
   is-step =

@@ -58,7 +58,14 @@ pub fn due_of(pre: &[u8], body: &[u8], origin: u32, place: u32) -> literals::Due
 }
 
 // The string token at `at` becomes a vector; past the end of any bytes there is none.
-pub fn spell_of(w: &mut [u8], r: Registers, pre: &[u8], body: &[u8], origin: u32, at: usize) -> Registers
+pub fn spell_of(
+    w: &mut [u8],
+    r: Registers,
+    pre: &[u8],
+    body: &[u8],
+    origin: u32,
+    at: usize,
+) -> Registers
     requires { ⌜ Busy (now w) r ⌝ }
     ensures { λ q. ⌜ Tried (spell (bytesOf (both (now (pre .entry)) (now (body .entry))) origin) at) (now (w .entry)) r (now (w .exit)) q ⌝ }
 {

@@ -30,7 +30,15 @@ fn plain(w: &mut [u8], r: Registers, pre: &[u8], body: &[u8], n: u16) -> Registe
 }
 
 // An operator with its body.
-fn holder(w: &mut [u8], r: Registers, pre: &[u8], body: &[u8], n: u16, start: u32, len: u32) -> Registers
+fn holder(
+    w: &mut [u8],
+    r: Registers,
+    pre: &[u8],
+    body: &[u8],
+    n: u16,
+    start: u32,
+    len: u32,
+) -> Registers
     requires { ⌜ Busy (now w) r × Short (now pre) (now body) × (start + len < 4294967296) ⌝ }
     ensures { λ q. ⌜ Tried (execute (both (now (pre .entry)) (now (body .entry))) (WithBody n start len)) (now (w .entry)) r (now (w .exit)) q ⌝ }
 {

@@ -40,7 +40,15 @@ pub fn spell(w: &mut [u8], r: Registers, pre: &[u8], body: &[u8], start: usize) 
 }
 
 // A body of the running one entered with a copy of its frame.
-fn inline(w: &mut [u8], r: Registers, pre: &[u8], body: &[u8], start: u32, len: u32, owes: bool) -> Registers
+fn inline(
+    w: &mut [u8],
+    r: Registers,
+    pre: &[u8],
+    body: &[u8],
+    start: u32,
+    len: u32,
+    owes: bool,
+) -> Registers
     requires { ⌜ Busy (now w) r × Short (now pre) (now body) × (start + len < 4294967296) ⌝ }
     ensures { λ q. ⌜ Tried (inline (both (now (pre .entry)) (now (body .entry))) start len owes) (now (w .entry)) r (now (w .exit)) q ⌝ }
 {
@@ -50,7 +58,16 @@ fn inline(w: &mut [u8], r: Registers, pre: &[u8], body: &[u8], start: u32, len: 
 }
 
 // The body of an operator entered with the frame that it keeps.
-fn call(w: &mut [u8], r: Registers, pre: &[u8], body: &[u8], origin: u32, start: u32, len: u32, first: u32) -> Registers
+fn call(
+    w: &mut [u8],
+    r: Registers,
+    pre: &[u8],
+    body: &[u8],
+    origin: u32,
+    start: u32,
+    len: u32,
+    first: u32,
+) -> Registers
     requires { ⌜ Busy (now w) r × Short (now pre) (now body) ⌝ }
     ensures { λ q. ⌜ Tried (call (both (now (pre .entry)) (now (body .entry))) origin start len first) (now (w .entry)) r (now (w .exit)) q ⌝ }
 {
@@ -110,7 +127,14 @@ fn figure(b: bool) -> numbers::Number
 }
 
 // EQ of two identifiers: 1 or 0 is pushed.
-fn matches(w: &mut [u8], r: Registers, pre: &[u8], body: &[u8], v: machine::Value, u: machine::Value) -> Registers
+fn matches(
+    w: &mut [u8],
+    r: Registers,
+    pre: &[u8],
+    body: &[u8],
+    v: machine::Value,
+    u: machine::Value,
+) -> Registers
     requires { ⌜ Busy (now w) r ⌝ }
     ensures { λ q. ⌜ Tried (worked (both (now (pre .entry)) (now (body .entry))) (Match v u)) (now (w .entry)) r (now (w .exit)) q ⌝ }
 {
@@ -140,7 +164,12 @@ fn report(w: &[u8], r: Registers, v: machine::Value) -> Registers
             lower: _,
             count,
         } => {
-            let all = state::cells::all_cardinals(w, r.used, table::words::size(first), table::words::size(count));
+            let all = state::cells::all_cardinals(
+                w,
+                r.used,
+                table::words::size(first),
+                table::words::size(count),
+            );
             if all {
                 return done(r);
             }
@@ -175,7 +204,12 @@ fn work(w: &mut [u8], r: Registers, pre: &[u8], body: &[u8], x: Work) -> Registe
         Work::Utter { start, len } => state::stack::push_name(w, r, start, len),
         Work::Compose { start, len } => state::cells::compose(w, r, start, len),
         Work::Repeat { count } => state::stack::repeat(w, r, table::words::size(count)),
-        Work::Turn { depth, first } => state::stack::turn(w, r, table::words::size(depth), table::words::size(first)),
+        Work::Turn { depth, first } => state::stack::turn(
+            w,
+            r,
+            table::words::size(depth),
+            table::words::size(first),
+        ),
         Work::Match(v, u) => matches(w, r, pre, body, v, u),
         Work::Report(v) => report(w, r, v),
     }
