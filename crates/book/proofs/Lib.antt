@@ -1,0 +1,4 @@
+-- The laws, lowest first. Assumes nothing.
+pub mod Growing
+pub mod SameBytes
+pub mod Ending

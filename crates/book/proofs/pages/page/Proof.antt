@@ -1,0 +1,17 @@
+-- `pages::page` meets its contract. Assumes nothing.
+use borrow.Author.Needs.{needs}
+use Rattle.book.proofs.Ending.{page-ends}
+use Rattle.book.proofs.pages.page.Statement.{statement}
+use Rattle.book.proofs.pages.page.Tie as tie
+
+pub page-spec : {M : Type 1} → statement M
+page-spec =
+    tie.close
+    (tie.spec
+    (λ c κs. search needs)
+    (λ c κs. search needs)
+    (λ c κs. search needs)
+    (λ c κs. search needs)
+    (λ c κs. search needs)
+    (λ c. search needs)
+    (λ c. page-ends (c .before .before .before .before .before .before .before .before .before .before .before .before .before .before .before .before .before .args .w .now) _ _ _ _ _ _ _ _ _ _ _ (c .before .before .before .before .before .before .before .before .before .before .before .before .before .before .before .before .before .pre .0) (c .before .before .before .before .before .before .before .before .before .before .before .before .before .before .before .before .before .pre .2) (c .before .before .before .before .before .before .before .before .before .before .before .before .take-frame .ensures) (c .before .before .before .before .before .before .before .before .before .solid-of .ensures) (c .before .before .before .before .before .before .before .word .ensures) (c .before .before .before .before .before .before .«open» .ensures) (c .before .before .run .ensures)))

@@ -1,0 +1,26 @@
+-- What the preamble and a page leave in the table, for contracts of inner functions. Assumes nothing.
+use Prim.Native.Nat.{ℕ, _≤_}
+use mathlib.Core.Path.{_≡_}
+use mathlib.Core.List.{List}
+use Rattle.table.specs.Slots.{slots}
+use Rattle.machine.specs.Step.{run, begin}
+use Rattle.machine.specs.Page.{preambleEnd}
+use Rattle.literals.specs.Names.{both}
+use Rattle.state.specs.declared.Registers.{Registers}
+use Rattle.state.specs.Layout.{valuesAt, aside, abs, Good}
+
+-- the preamble's end, its frame kept aside
+pub record Preambled (pre : List ℕ) (allowance : ℕ) (w : List ℕ) (r : Registers) : Type 0 where
+  pub good : Good w r
+  pub does : abs w r ≡ preambleEnd allowance pre
+  pub kept : aside w ≡ preambleEnd allowance pre .frame
+  pub counted : r .steps ≤ allowance
+
+-- a page's end, from the frame kept aside and the first cells, which stay
+pub record Paged (pre body : List ℕ) (used allowance : ℕ) (w w′ : List ℕ) (r : Registers) : Type 0 where
+  pub good : Good w′ r
+  pub does : abs w′ r ≡ run allowance (both pre body) (begin (both pre body) 1 (aside w) (valuesAt (slots w) 728 used))
+  pub keeps : aside w′ ≡ aside w
+  pub cells : valuesAt (slots w′) 728 used ≡ valuesAt (slots w) 728 used
+  pub more : used ≤ r .used
+  pub counted : r .steps ≤ allowance
