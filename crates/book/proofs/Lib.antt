@@ -2,3 +2,4 @@
 pub mod Growing
 pub mod SameBytes
 pub mod Ending
+pub mod Rowing
