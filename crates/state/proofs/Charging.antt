@@ -80,7 +80,7 @@ charged m n sp h k = rw (top-values m n sp h k) (map-reverse valueIn (desc m (sp
 -- ---- the value v at a, and n cells more: m₁ is the table with the cells
 
 module _ {w : List ℕ} {r : Registers} (a n : ℕ) (v : Slot) (e : Value) (new : List Value) (m₁ : List Slot) (g : Busy w r) (al : a < 128) (room₁ : r .used + n ≤ 1024) (is : entryIn v ≡ val e)
-  (long : length m₁ ≡ length (slots w)) (low : Same m₁ (slots w) 0 (728 + r .used)) (high : Same m₁ (slots w) 1752 1814) (made : valuesAt m₁ (728 + r .used) n ≡ new) where
+    (long : length m₁ ≡ length (slots w)) (low : Same m₁ (slots w) 0 (728 + r .used)) (high : Same m₁ (slots w) 1752 1814) (made : valuesAt m₁ (728 + r .used) n ≡ new) where
   module _ (w′ : List ℕ) (p : slots w′ ≡ set m₁ a v) where
     put-low : (x y : ℕ) → a < x → y ≤ 728 + r .used → Same (slots w′) (slots w) x y
     put-low x y l f = rw p (same-then (set m₁ a v) m₁ (slots w) x y (same-set m₁ a v x y (inl l)) (λ k s t. low k (omega arith) (omega arith)))
@@ -98,7 +98,7 @@ module _ {w : List ℕ} {r : Registers} (a n : ℕ) (v : Slot) (e : Value) (new 
         (contexts-same (slots w′) m (r .depth) (put-low 128 _ al (omega arith)) (put-high 1752 _ (omega arith) (omega arith)))
         (values-same (slots w′) m 128 50 (put-low 128 _ al (omega arith)))
         (rw p (values-same m′ m₁ 728 (r .used + n) (same-set m₁ a v 728 _ (inl (omega arith))) ∙ values-cut m₁ 728 (r .used) n ∙
-          ap₂ _++_ (values-same m₁ m 728 (r .used) (λ k s t. low k (omega arith) t)) made))
+        ap₂ _++_ (values-same m₁ m 728 (r .used) (λ k s t. low k (omega arith) t)) made))
 
     charged-room : 48000 ≤ length w′
     charged-room = room-of w′ (set m₁ a v) p (rw (length-set, long) (wide w (g .room)))
@@ -280,7 +280,7 @@ module _ {w : List ℕ} {r : Registers} (b : List ℕ) (at n : ℕ) (g : Busy w 
           let room = wide w (g .room) in
           let l : length vs ≡ n = letters-long d ∙ sym en in
           let made : valuesAt (sets m k vs) k n ≡ numbers d =
-              ap (valuesAt (sets m k vs) k) (sym l) ∙ sets-values vs m k (omega arith) ∙ letters-are d (data-bytes b at bytes) in
+          ap (valuesAt (sets m k vs) k) (sym l) ∙ sets-values vs m k (omega arith) ∙ letters-are d (data-bytes b at bytes) in
           charged-tried (r .height) n (mk 3 (r .used) 0 n 0) (Vector (r .used) 0 n) _ (sets m k vs) g st (omega arith) (vector-entry (r .used) 0 n (omega arith) (omega arith) (omega arith)) (length-sets m k vs)
           (λ i s t. sets-out vs m k i (inl t)) (λ i s t. sets-out vs m k i (inr (omega arith))) made w′ (rw (ef, ec, p₁) at p) (spell b at) spell-is q
 

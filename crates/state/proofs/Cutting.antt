@@ -124,7 +124,7 @@ pub values-part : (m : List Slot) (b f n u : ℕ) → f + n ≤ u → take n (dr
 values-part m b f n u h =
     let e : u ≡ f + (n + (u - (f + n))) = omega arith in
     let q : drop f (valuesAt m b u) ≡ valuesAt m (b + f) (n + (u - (f + n))) =
-        ap (λ k. drop f (valuesAt m b k)) e ∙ ap (drop f) (values-cut m b f (n + (u - (f + n)))) ∙ drop-at (valuesAt m b f) _ f (length-values m b f) in
+    ap (λ k. drop f (valuesAt m b k)) e ∙ ap (drop f) (values-cut m b f (n + (u - (f + n)))) ∙ drop-at (valuesAt m b f) _ f (length-values m b f) in
     ap (take n) (q ∙ values-cut m (b + f) n (u - (f + n))) ∙ take-at (valuesAt m (b + f) n) _ n (length-values m (b + f) n)
 
 pub values-store : (m : List Slot) (b n i : ℕ) (v : Slot) → i < n → b + i < length m → valuesAt (set m (b + i) v) b n ≡ set (valuesAt m b n) i (valueIn v)

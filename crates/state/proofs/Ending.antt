@@ -72,10 +72,16 @@ module _ {R : State} (w : List ℕ) (r : Registers) (inv : settle (abs w r) ≡ 
           let height = r .height in
           let k = mk 1 0 1 0 0 in
           let room = wide w (g .room) in
-          rw (e, p, z, stack-more m height k (omega arith), zero-entry,
+          rw (
+            e,
+            p,
+            z,
+            stack-more m height k (omega arith),
+            zero-entry,
             contexts-same (set m height k) m (r .depth - 1) (same-set m height k 128 _ (inl f)) (same-set m height k 1752 _ (inl (omega arith))),
             values-same (set m height k) m 128 50 (same-set m height k 128 _ (inl f)),
-            values-same (set m height k) m 728 (r .used) (same-set m height k 728 _ (inl (omega arith))))
+            values-same (set m height k) m 728 (r .used) (same-set m height k 728 _ (inl (omega arith))),
+          )
           (rw (contexts-at m (r .depth) c h got, le-leb (c .c) (c .b) t, eq-eqb (c .d) 1 o, length-stack, lt-ltb height 128 f) at inv)
 
       pub leave-full : {r₁ r′ : Registers} → c .d ≡ 1 → 128 ≤ r .height → r₁ ≡ moved r (r .height) (r .depth - 1) (r .errors) (r .skipping) → Done fault w r₁ w r′ → abs w r′ ≡ R
@@ -104,7 +110,7 @@ module _ {w : List ℕ} {r : Registers} (c : Slot) (g : Busy w r) (got : c ≡ g
   skip-left {r′} height depth t p e =
       rw e (record {
         good = omega (arith, p .lower, p .fewer);
-      keeps = refl;
-      counted = refl;
+        keeps = refl;
+        counted = refl;
         does = rw (contexts-at (slots w) (r .depth) c (g .runs) got, le-leb (c .c) (c .b) t, ← (p .lands), b);
       })

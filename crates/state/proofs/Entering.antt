@@ -29,7 +29,7 @@ use Rattle.state.proofs.Trying.{trying, failed, tried-no, tried-yes, fi
 -- ---- a body entered, its frame copied from the slot s on
 
 module _ {w : List ℕ} {r : Registers} (f : State → Option State) (s origin at end : ℕ) (o : ℕ) (g : Busy w r) (room₁ : s + 50 ≤ 2400) (apart : Apart s (frameAt (r .depth)) 50)
-  (meant : f (abs w r) ≡ enter (entered origin at end (eqb o 1) (valuesAt (slots w) s 50) (abs w r)) (abs w r)) where
+    (meant : f (abs w r) ≡ enter (entered origin at end (eqb o 1) (valuesAt (slots w) s 50) (abs w r)) (abs w r)) where
   enter-full : {r′ : Registers} → 12 ≤ r .depth → r′ ≡ failed r → Tried f w r w r′
   unfolding enter limited fits
   enter-full {r′} h q = tried-no g (meant ∙ (rw (length-stack, le-leb (r .height) 128 (g .stack-fits), length-contexts, lt-leb (suc (r .depth)) 12 (omega arith)))) q
@@ -49,11 +49,11 @@ module _ {w : List ℕ} {r : Registers} (f : State → Option State) (s origin a
         let room = wide w (g .room) in
         let l₁ = length-copied m s (frameAt d) 50 in
         let fr : valuesAt m′ (frameAt d) 50 ≡ valuesAt m s 50 =
-            values-same m′ m₁ (frameAt d) 50 (same-set m₁ (1752 + d) v (frameAt d) _ (inr (omega arith))) ∙ values-moved m s (frameAt d) 50 (omega arith) apart in
+        values-same m′ m₁ (frameAt d) 50 (same-set m₁ (1752 + d) v (frameAt d) _ (inr (omega arith))) ∙ values-moved m s (frameAt d) 50 (omega arith) apart in
         let cs : contextsOf m′ d ≡ contextsOf m d =
-            contexts-same m′ m d
-            (same-then m′ m₁ m 128 _ (same-set m₁ (1752 + d) v 128 _ (inr (omega arith))) (same-copied m s (frameAt d) 50 128 _ (inr (omega arith))))
-            (same-then m′ m₁ m 1752 _ (same-set m₁ (1752 + d) v 1752 _ (inr (omega arith))) (same-copied m s (frameAt d) 50 1752 _ (inl (omega arith)))) in
+        contexts-same m′ m d
+        (same-then m′ m₁ m 128 _ (same-set m₁ (1752 + d) v 128 _ (inr (omega arith))) (same-copied m s (frameAt d) 50 128 _ (inr (omega arith))))
+        (same-then m′ m₁ m 1752 _ (same-set m₁ (1752 + d) v 1752 _ (inr (omega arith))) (same-copied m s (frameAt d) 50 1752 _ (inl (omega arith)))) in
         rw (p, add-one, getD-set-same m₁ (1752 + d) v nil (omega arith), fr, cs)
 
     enter-made : {r′ : Registers} → r′ ≡ trying r (r .height) (r .depth + 1) (r .used) true → Tried f w r w′ r′
@@ -70,13 +70,13 @@ module _ {w : List ℕ} {r : Registers} (f : State → Option State) (s origin a
         let rm = room-of w′ m′ pm big in
         let r₁ = trying r (r .height) (d + 1) (r .used) true in
         let e : abs w′ r₁ ≡ withContexts (new ∷ contextsOf m d) (abs w r) =
-            state-path
-            (rw pm (stack-same m′ m (r .height) (same-then m′ m₁ m 0 _ (same-set m₁ (1752 + d) v 0 _ (inr (omega arith))) (same-copied m s (frameAt d) 50 0 _ (inr (omega arith))))))
-            contexts-put
-            (rw pm (values-same m′ m 128 50 (same-then m′ m₁ m 128 _ (same-set m₁ (1752 + d) v 128 _ (inr (omega arith))) (same-copied m s (frameAt d) 50 128 _ (inr (omega arith))))))
-            (rw pm (values-same m′ m 728 (r .used) (same-then m′ m₁ m 728 _ (same-set m₁ (1752 + d) v 728 _ (inr (omega arith))) (same-copied m s (frameAt d) 50 728 _ (inl (omega arith)))))) in
+        state-path
+        (rw pm (stack-same m′ m (r .height) (same-then m′ m₁ m 0 _ (same-set m₁ (1752 + d) v 0 _ (inr (omega arith))) (same-copied m s (frameAt d) 50 0 _ (inr (omega arith))))))
+        contexts-put
+        (rw pm (values-same m′ m 128 50 (same-then m′ m₁ m 128 _ (same-set m₁ (1752 + d) v 128 _ (inr (omega arith))) (same-copied m s (frameAt d) 50 128 _ (inr (omega arith))))))
+        (rw pm (values-same m′ m 728 (r .used) (same-then m′ m₁ m 728 _ (same-set m₁ (1752 + d) v 728 _ (inr (omega arith))) (same-copied m s (frameAt d) 50 728 _ (inl (omega arith)))))) in
         let kp : aside w′ ≡ aside w =
-            aside-same w′ w (rw pm (same-then m′ m₁ m 1764 1814 (same-set m₁ (1752 + d) v 1764 1814 (inl (omega arith))) (same-copied m s (frameAt d) 50 1764 1814 (inl (omega arith))))) in
+        aside-same w′ w (rw pm (same-then m′ m₁ m 1764 1814 (same-set m₁ (1752 + d) v 1764 1814 (inl (omega arith))) (same-copied m s (frameAt d) 50 1764 1814 (inl (omega arith))))) in
         rw q (tried-yes (omega arith) kp refl refl (meant ∙ (rw (← e) (fits-abs w′ r₁ (g .stack-fits) (omega arith) (g .cells-fit)))))
 
 -- ---- with a copy of the running frame
@@ -165,8 +165,8 @@ begin-done {w} {w′} {r} {r′} next c g d0 sl e p q =
     let big : 2400 ≤ length m′ = rw length-set room in
     let rm = room-of w′ m′ p big in
     let cs : contextsOf m′ d ≡ contextIn v (valuesAt m (frameAt (d - 1)) 50) ∷ contextsOf m (d - 1) =
-        contexts-renew m m′ d d0 (g .depth-fits) (same-set m k v 128 _ (inr (omega arith))) (same-set m k v 1752 _ (inr (omega arith))) ∙
-        (rw (getD-set-same m k v nil (omega arith), values-same m′ m (frameAt (d - 1)) 50 (same-set m k v (frameAt (d - 1)) _ (inr (omega arith))))) in
+    contexts-renew m m′ d d0 (g .depth-fits) (same-set m k v 128 _ (inr (omega arith))) (same-set m k v 1752 _ (inr (omega arith))) ∙
+    (rw (getD-set-same m k v nil (omega arith), values-same m′ m (frameAt (d - 1)) 50 (same-set m k v (frameAt (d - 1)) _ (inr (omega arith))))) in
     rw q (record {
       busy = omega arith;
       does =

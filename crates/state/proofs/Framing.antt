@@ -94,9 +94,9 @@ module _ {w : List ℕ} {r : Registers} (j : ℕ) (g : Busy w r) where
           let m = slots w in
           let r₁ = trying r (r .height - 1) (r .depth) (r .used) true in
           let same : storeIn j (valueIn v) (contextsOf m (r .depth)) ≡ contextsOf m (r .depth) =
-              rw (contexts-top m (r .depth) (g .runs), set-far (valuesAt m (frameAt (r .depth - 1)) 50) j (valueIn v) (rw length-values h)) in
+          rw (contexts-top m (r .depth) (g .runs), set-far (valuesAt m (frameAt (r .depth - 1)) 50) j (valueIn v) (rw length-values h)) in
           let e : abs w r₁ ≡ noted (withContexts (storeIn j (valueIn v) (contextsOf m (r .depth))) (abs w r₁)) =
-              rw same (state-path refl refl (sym (last-frame m (r .depth) (valuesAt m 128 50) (g .runs))) refl) in
+          rw same (state-path refl refl (sym (last-frame m (r .depth) (valuesAt m 128 50) (g .runs))) refl) in
           rw q (tried-yes (omega arith) refl refl refl (store-is ∙ (rw (← e) (fits-abs w r₁ (omega arith) (g .depth-fits) (g .cells-fit)))))
 
       pub store-yes : {w′ : List ℕ} {r′ : Registers} → j < 50 → slots w′ ≡ set (slots w) (128 + 50 * (r .depth - 1) + j) v → r′ ≡ trying r (r .height - 1) (r .depth) (r .used) true → Tried (store j) w r w′ r′
@@ -111,9 +111,9 @@ module _ {w : List ℕ} {r : Registers} (j : ℕ) (g : Busy w r) where
           let rm = room-of w′ m′ p l in
           let cs : contextsOf (slots w′) (r .depth) ≡ storeIn j (valueIn v) (contextsOf m (r .depth)) = rw p (contexts-store m (r .depth) j v (g .runs) (g .depth-fits) h room) in
           let e : abs w′ r₁ ≡ noted (withContexts (storeIn j (valueIn v) (contextsOf m (r .depth))) (abs w r₁)) =
-              state-path (rw p (stack-same m′ m (r .height - 1) (same-set m k v 0 _ (inr (omega arith))))) cs
-              (rw (← cs) (sym (last-frame (slots w′) (r .depth) (valuesAt m 128 50) (g .runs))))
-              (rw p (values-same m′ m 728 (r .used) (same-set m k v 728 _ (inl (omega arith))))) in
+          state-path (rw p (stack-same m′ m (r .height - 1) (same-set m k v 0 _ (inr (omega arith))))) cs
+          (rw (← cs) (sym (last-frame (slots w′) (r .depth) (valuesAt m 128 50) (g .runs))))
+          (rw p (values-same m′ m 728 (r .used) (same-set m k v 728 _ (inl (omega arith))))) in
           let kp : aside w′ ≡ aside w = aside-same w′ w (rw p (same-set m k v 1764 1814 (inl (omega arith)))) in
           rw q (tried-yes (omega arith) kp refl refl (store-is ∙ (rw (← e) (fits-abs w′ r₁ (omega arith) (g .depth-fits) (g .cells-fit)))))
 

@@ -89,7 +89,7 @@ module _ {w : List ℕ} {r : Registers} (n : ℕ) (b : Bool) (g : Busy w r) (eb 
           let l = few n b g eb there in
           let low : over (drop n (above s)) (beneath s) ≡ stackOf (slots w) (r .height - n) = over-drop s n en ∙ stack-dropped (slots w) n (r .height) l in
           let all : over (take n (above s)) (mark (c .kind) ∷ stackOf (slots w) (r .height - n)) ≡ entriesAt (slots w) (r .height - n) n ++ (mark (c .kind) ∷ stackOf (slots w) (r .height - n)) =
-              over-take s n _ en ∙ ap (λ (x : List Entry). x ++ (mark (c .kind) ∷ stackOf (slots w) (r .height - n))) (stack-taken (slots w) n (r .height) l) in
+          over-take s n _ en ∙ ap (λ (x : List Entry). x ++ (mark (c .kind) ∷ stackOf (slots w) (r .height - n))) (stack-taken (slots w) n (r .height) l) in
           rw (← eb, there, running-id w r c g got, low, all)
 
       pub place-yes : {w′ : List ℕ} {r′ : Registers} → r .height < 128 → slots w′ ≡ markPut (slots w) (r .height - n) n (c .kind) → r′ ≡ trying r (r .height + 1) (r .depth) (r .used) true → Tried (place n) w r w′ r′
@@ -198,11 +198,11 @@ module _ {w : List ℕ} {r : Registers} (n : ℕ) (g : Busy w r) where
             let l = entriesAt m (h - n) n ++ stackOf m a in
             let all = marked-at .0 in
             let whole : over (above (stackOf m h)) (stackOf m a) ≡ l =
-                over-all (stackOf m h) (stackOf m a) ∙ (rw (← all) (ap (λ (x : List Entry). x ++ stackOf m a) (stack-taken m n h (omega arith)))) in
+            over-all (stackOf m h) (stackOf m a) ∙ (rw (← all) (ap (λ (x : List Entry). x ++ stackOf m a) (stack-taken m n h (omega arith)))) in
             let e : h - 1 ≡ a + n = omega arith in
             let st : stackOf m′ (h - 1) ≡ l =
-                rw e (stack-joined m′ a n ∙
-                ap₂ _++_ (entries-moved m (h - n) a n (omega arith) (inr (omega arith))) (stack-same m′ m a (same-copied m (h - n) a n 0 a (inr (omega arith))))) in
+            rw e (stack-joined m′ a n ∙
+            ap₂ _++_ (entries-moved m (h - n) a n (omega arith) (inr (omega arith))) (stack-same m′ m a (same-copied m (h - n) a n 0 a (inr (omega arith))))) in
             let len : length l ≤ 128 = omega (arith, ap length st, length-stack m′ (h - 1)) in
             let sm : Same (slots w′) m 128 1814 = rw p (same-copied m (h - n) a n 128 1814 (inl (omega arith))) in
             rw q (tried-yes (omega arith) (aside-above w w′ sm) refl refl
@@ -219,7 +219,6 @@ module _ {w : List ℕ} {r : Registers} (k : ℕ) (g : Busy w r) (kl : k ≤ r .
   unfolding stackOf desc
   bare e = let z : r .height - k ≡ 0 = omega arith in beneath-is ∙ (rw z)
 
-
   pub tally-bare : {r′ : Registers} → k ≡ r .height → r′ ≡ failed r → Tried tally w r w r′
   unfolding tally tallyAt
   tally-bare {r′} e q = tried-no g (rw (bare e)) q
@@ -227,7 +226,6 @@ module _ {w : List ℕ} {r : Registers} (k : ℕ) (g : Busy w r) (kl : k ≤ r .
   module _ (v : Slot) (got : v ≡ getD (slots w) (r .height - k - 1) nil) (ne : k ≡ r .height → ⊥) where
     top-is : beneath (stackOf (slots w) (r .height)) ≡ entryIn v ∷ stackOf (slots w) (r .height - k - 1)
     top-is = beneath-is ∙ stack-at (slots w) (r .height - k) v (omega arith) got
-
 
     pub tally-value : {r′ : Registers} → (v .kind ≡ 5 → ⊥) → r′ ≡ failed r → Tried tally w r w r′
     unfolding tally tallyAt entryIn
@@ -237,7 +235,6 @@ module _ {w : List ℕ} {r : Registers} (k : ℕ) (g : Busy w r) (kl : k ≤ r .
       mark-is : beneath (stackOf (slots w) (r .height)) ≡ mark (v .a) ∷ stackOf (slots w) (r .height - k - 1)
       unfolding entryIn
       mark-is = rw (eq-eqb (v .kind) 5 is) at top-is
-
 
       pub tally-other : {r′ : Registers} → (v .a ≡ c .kind → ⊥) → r′ ≡ failed r → Tried tally w r w r′
       unfolding tally tallyAt provided

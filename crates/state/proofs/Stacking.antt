@@ -158,7 +158,7 @@ module _ {w : List ℕ} {r : Registers} (v u : Value) (g : Busy w r) where
       let s = val u ∷ val v ∷ stackOf m n in
       let e : n + 2 ≡ n + 1 + 1 = omega arith in
       let st : stackOf (slots w′) (n + 2) ≡ s =
-          rw (pm, e, ← ex, ← ey, ← (value-entry x nx), ← (value-entry y ny)) (stack-more m₁ (n + 1) y (omega arith) ∙ ap (λ l. entryIn y ∷ l) (stack-more m n x (omega arith))) in
+      rw (pm, e, ← ex, ← ey, ← (value-entry x nx), ← (value-entry y ny)) (stack-more m₁ (n + 1) y (omega arith) ∙ ap (λ l. entryIn y ∷ l) (stack-more m n x (omega arith))) in
       let sm : Same (slots w′) m 128 1814 = rw pm (same-then m′ m₁ m 128 1814 (same-set m₁ (n + 1) y 128 1814 (inl (omega arith))) (same-set m n x 128 1814 (inl (omega arith)))) in
       let len : length s ≤ 128 = omega (arith, length-stack m n) in
       rw q (tried-yes (omega arith) (aside-above w w′ sm) refl refl (fits-stack w r s g len ∙ ap some (sym (stack-only w w′ r (n + 2) s g sm st))))
@@ -203,10 +203,10 @@ module _ {w : List ℕ} {r : Registers} (n : ℕ) (b : Bool) (g : Busy w r) (eb 
     repeat-is =
         let s = stackOf (slots w) (r .height) in
         let e : over (take n (above s) ++ above s) (beneath s) ≡ entriesAt (slots w) (r .height - n) n ++ s =
-            over-append (take n (above s)) (above s) (beneath s) ∙
-            ap (over (take n (above s))) (over-above s) ∙
-            over-take s n s enough ∙
-            ap (λ (l : List Entry). l ++ s) (stack-taken (slots w) n (r .height) few) in
+        over-append (take n (above s)) (above s) (beneath s) ∙
+        ap (over (take n (above s))) (over-above s) ∙
+        over-take s n s enough ∙
+        ap (λ (l : List Entry). l ++ s) (stack-taken (slots w) n (r .height) few) in
         rw (← eb, there, e)
 
     copies-long : length copies ≡ n + r .height
@@ -228,8 +228,8 @@ module _ {w : List ℕ} {r : Registers} (n : ℕ) (b : Bool) (g : Busy w r) (eb 
         let l = few in
         let sm : Same (slots w′) m 128 1814 = rw p (same-copied m (h - n) h n 128 1814 (inl (omega arith))) in
         let st : stackOf (slots w′) (h + n) ≡ copies =
-            rw p (stack-joined m′ h n ∙
-            ap₂ _++_ (entries-moved m (h - n) h n (omega arith) (inl (omega arith))) (stack-same m′ m h (same-copied m (h - n) h n 0 h (inr (omega arith))))) in
+        rw p (stack-joined m′ h n ∙
+        ap₂ _++_ (entries-moved m (h - n) h n (omega arith) (inl (omega arith))) (stack-same m′ m h (same-copied m (h - n) h n 0 h (inr (omega arith))))) in
         rw q (tried-yes (omega arith) (aside-above w w′ sm) refl refl (repeat-is ∙ fits-stack w r copies g (omega (arith, copies-long)) ∙ ap some (sym (stack-only w w′ r (h + n) copies g sm st))))
 
   -- ROLL
@@ -258,14 +258,14 @@ module _ {w : List ℕ} {r : Registers} (n : ℕ) (b : Bool) (g : Busy w r) (eb 
           let jn = j-few in
           let low : over (drop n vs) (beneath s) ≡ stackOf m (h - n) = over-drop s n en ∙ stack-dropped m n h l in
           let mid : over (take j vs) (stackOf m (h - n)) ≡ entriesAt m (h - j) j ++ stackOf m (h - n) =
-              over-take s j (stackOf m (h - n)) (omega arith) ∙ ap (λ (x : List Entry). x ++ stackOf m (h - n)) (stack-taken m j h (omega arith)) in
+          over-take s j (stackOf m (h - n)) (omega arith) ∙ ap (λ (x : List Entry). x ++ stackOf m (h - n)) (stack-taken m j h (omega arith)) in
           let top : over (drop j (take n vs)) [] ≡ entriesAt m (h - n) (n - j) =
-              over-rest j (take n vs) ∙ ap (drop j) (over-take s n [] en ∙ append-nil (take n s) ∙ stack-taken m n h l) ∙ entries-drop m (h - n) j n jn in
+          over-rest j (take n vs) ∙ ap (drop j) (over-take s n [] en ∙ append-nil (take n s) ∙ stack-taken m n h l) ∙ entries-drop m (h - n) j n jn in
           let e : over (drop j (take n vs) ++ (take j vs ++ drop n vs)) (beneath s) ≡ entriesAt m (h - n) (n - j) ++ (entriesAt m (h - j) j ++ stackOf m (h - n)) =
-              over-append (drop j (take n vs)) (take j vs ++ drop n vs) (beneath s) ∙
-              ap (over (drop j (take n vs))) (over-append (take j vs) (drop n vs) (beneath s) ∙ ap (over (take j vs)) low ∙ mid) ∙
-              over-apart (drop j (take n vs)) _ ∙
-              ap (λ (x : List Entry). x ++ (entriesAt m (h - j) j ++ stackOf m (h - n))) top in
+          over-append (drop j (take n vs)) (take j vs ++ drop n vs) (beneath s) ∙
+          ap (over (drop j (take n vs))) (over-append (take j vs) (drop n vs) (beneath s) ∙ ap (over (take j vs)) low ∙ mid) ∙
+          over-apart (drop j (take n vs)) _ ∙
+          ap (λ (x : List Entry). x ++ (entriesAt m (h - j) j ++ stackOf m (h - n))) top in
           rw (← ej, ← eb, there, e)
 
       turned-long : length turned ≡ r .height
@@ -287,11 +287,11 @@ module _ {w : List ℕ} {r : Registers} (n : ℕ) (b : Bool) (g : Busy w r) (eb 
           let big : 2400 ≤ length m′ = rw (length-copied, length-copied, length-copied) room in
           let rm = room-of w′ m′ p big in
           let sm : Same (slots w′) m 128 1814 =
-              rw p (same-then m′ m₂ m 128 1814 (same-copied m₂ 1814 (a + j) (n - j) 128 1814 (inl (omega arith)))
-              (same-then m₂ m₁ m 128 1814 (same-copied m₁ (1814 + (n - j)) a j 128 1814 (inl (omega arith))) (same-copied m a 1814 n 128 1814 (inr (omega arith))))) in
+          rw p (same-then m′ m₂ m 128 1814 (same-copied m₂ 1814 (a + j) (n - j) 128 1814 (inl (omega arith)))
+          (same-then m₂ m₁ m 128 1814 (same-copied m₁ (1814 + (n - j)) a j 128 1814 (inl (omega arith))) (same-copied m a 1814 n 128 1814 (inr (omega arith))))) in
           let e : h ≡ a + n = omega arith in
           let e′ : a + (n - j) ≡ h - j = omega arith in
           let st : stackOf (slots w′) h ≡ turned =
-              rw p (ap (stackOf m′) e ∙ entries-rolled m a n j jn (omega arith) (omega arith) ∙
-              ap (λ k. entriesAt m a (n - j) ++ (entriesAt m k j ++ stackOf m a)) e′) in
+          rw p (ap (stackOf m′) e ∙ entries-rolled m a n j jn (omega arith) (omega arith) ∙
+          ap (λ k. entriesAt m a (n - j) ++ (entriesAt m k j ++ stackOf m a)) e′) in
           rw q (tried-yes (omega arith) (aside-above w w′ sm) refl refl (turn-is ∙ fits-stack w r turned g (omega (arith, turned-long)) ∙ ap some (sym (stack-only w w′ r h turned g sm st))))

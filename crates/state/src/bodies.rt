@@ -33,7 +33,16 @@ pub fn begin(w: &mut [u8], r: Registers, next: u32) -> Registers
 }
 
 // The context d, with a frame copied from the slot s on.
-fn put_context(w: &mut [u8], id: usize, d: usize, s: usize, origin: u32, at: u32, end: u32, owes: u32)
+fn put_context(
+    w: &mut [u8],
+    id: usize,
+    d: usize,
+    s: usize,
+    origin: u32,
+    at: u32,
+    end: u32,
+    owes: u32,
+)
     requires { ⌜ (id < 4294967296) × (d < 12) × (s + 50 ≤ 2400) × (48000 ≤ length (now w)) ⌝ }
     ensures { λ _. ⌜ slots (now (w .exit)) ≡ contextPut (slots (now (w .entry))) id d s origin at end owes ⌝ }
 {

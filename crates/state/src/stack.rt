@@ -52,20 +52,40 @@ pub fn tops(w: &[u8], height: usize) -> Tops
 {
     let zero = crate::values::zero();
     if height == 0 {
-        return Tops { count: 0, first: zero, second: zero };
+        return Tops {
+            count: 0,
+            first: zero,
+            second: zero,
+        };
     }
     let first = table::slots::get(w, height - 1);
     if first.kind == 5 {
-        return Tops { count: 0, first: zero, second: zero };
+        return Tops {
+            count: 0,
+            first: zero,
+            second: zero,
+        };
     }
     if height == 1 {
-        return Tops { count: 1, first, second: zero };
+        return Tops {
+            count: 1,
+            first,
+            second: zero,
+        };
     }
     let second = table::slots::get(w, height - 2);
     if second.kind == 5 {
-        return Tops { count: 1, first, second: zero };
+        return Tops {
+            count: 1,
+            first,
+            second: zero,
+        };
     }
-    Tops { count: 2, first, second }
+    Tops {
+        count: 2,
+        first,
+        second,
+    }
 }
 
 pub fn push_slot(w: &mut [u8], r: Registers, v: Slot) -> Registers
