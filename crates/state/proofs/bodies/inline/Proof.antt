@@ -1,5 +1,6 @@
 -- `bodies::inline` meets its contract. Assumes nothing.
 use borrow.Author.Needs.{needs}
+use mathlib.Core.Path.{refl}
 use Prim.Native.Nat.{_-_}
 use Rattle.state.proofs.Entering.{inline-full, inline-yes}
 use Rattle.state.proofs.bodies.inline.Statement.{statement}
@@ -21,4 +22,4 @@ inline-spec =
     (λ c κs. search needs)
     (λ c. search needs)
     (λ c. search needs)
-    (λ c. search (needs, inline-yes)))
+    (λ c. inline-yes _ _ _ (c .before .before .before .before .before .before .before .before .before .pre) _ _ (c .before .before .before .before .before .before .before .if1 .left) (c .before .before .before .before .before .get .ensures) (c .before .before .before .before .owing .ensures) (c .before .before .put-context .ensures) refl))

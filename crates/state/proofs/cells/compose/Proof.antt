@@ -1,5 +1,6 @@
 -- `cells::compose` meets its contract. Assumes nothing.
 use borrow.Author.Needs.{needs}
+use mathlib.Core.Path.{refl}
 use Prim.Native.Nat.{_-_}
 use Rattle.state.proofs.Charging.{compose-full, compose-over, compose-yes}
 use Rattle.state.proofs.cells.compose.Statement.{statement}
@@ -27,4 +28,4 @@ compose-spec =
     (λ c. search needs)
     (λ c. search needs)
     (λ c. search needs)
-    (λ c. search (needs, compose-yes)))
+    (λ c. compose-yes _ _ (c .before .before .before .before .before .before .before .before .before .before .before .before .before .before .pre) (c .before .before .before .before .before .before .before .before .before .before .before .before .if1 .left) _ _ _ (c .before .before .before .before .before .before .before .before .before .before .before .if2 .left) (c .before .before .before .before .before .before .before .before .before .get .ensures) (c .before .before .before .before .before .before .before .copy .ensures) (c .before .before .before .before .word .ensures) (c .before .before .put .ensures) refl))

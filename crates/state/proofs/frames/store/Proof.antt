@@ -1,5 +1,6 @@
 -- `frames::store` meets its contract. Assumes nothing.
 use borrow.Author.Needs.{needs}
+use mathlib.Core.Path.{refl}
 use Prim.Native.Nat.{_-_}
 use Rattle.state.proofs.Framing.{store-empty, store-mark, store-far, store-yes}
 use Rattle.state.proofs.frames.store.Statement.{statement}
@@ -25,4 +26,4 @@ store-spec =
     (λ c. search needs)
     (λ c κs. search needs)
     (λ c. search needs)
-    (λ c. search (needs, store-yes)))
+    (λ c. store-yes (c .before .before .before .before .before .before .before .before .before .before .before .args .j) (c .before .before .before .before .before .before .before .before .before .before .before .pre) _ (c .before .before .before .before .before .before .before .get .ensures) (c .before .before .before .before .before .before .before .before .before .if1 .left) (c .before .before .before .before .before .if2 .left) (c .before .before .before .before .if3 .left) (c .before .before .put .ensures) refl))
