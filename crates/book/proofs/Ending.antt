@@ -37,7 +37,7 @@ unfolding opening begin
 opened-begins code origin at end frame cells e f = rw (e, f)
 
 module _ (w w₁ w₂ w₃ w′ : List ℕ) (pre none : List ℕ) (at end allowance : ℕ) (r q : Registers) (room : 48000 ≤ length w) (alone : length none ≡ 0)
-  (p₁ : slots w₁ ≡ filled (slots w) 128 50) (ea : at ≡ solid (bytesOf (both pre none) 0) 0) (ee : end ≡ length pre) (o : Opened 0 at end 0 w₁ w₂ r) (n : Ran pre none allowance w₂ r w₃ q) (p : slots w′ ≡ copied (slots w₃) 128 1764 50) where
+    (p₁ : slots w₁ ≡ filled (slots w) 128 50) (ea : at ≡ solid (bytesOf (both pre none) 0) 0) (ee : end ≡ length pre) (o : Opened 0 at end 0 w₁ w₂ r) (n : Ran pre none allowance w₂ r w₃ q) (p : slots w′ ≡ copied (slots w₃) 128 1764 50) where
   started : abs w₂ r ≡ begin (both pre none) 0 zeroFrame []
   unfolding valuesAt asc
   started = o .is ∙ (rw (p₁, frame-filled (slots w) (wide w room)) (opened-begins (both pre none) 0 at end zeroFrame [] ea ee))
@@ -74,7 +74,7 @@ module _ (w w₁ w₂ w₃ w′ : List ℕ) (pre none : List ℕ) (at end allowa
       }
 
 module _ (w w₁ w₂ w′ : List ℕ) (pre body : List ℕ) (at end used allowance : ℕ) (r q : Registers) (room : 48000 ≤ length w) (few : used ≤ 1024)
-  (p₁ : slots w₁ ≡ copied (slots w) 1764 128 50) (ea : at ≡ solid (bytesOf (both pre body) 1) 0) (ee : end ≡ length body) (o : Opened 1 at end used w₁ w₂ r) (n : Ran pre body allowance w₂ r w′ q) where
+    (p₁ : slots w₁ ≡ copied (slots w) 1764 128 50) (ea : at ≡ solid (bytesOf (both pre body) 1) 0) (ee : end ≡ length body) (o : Opened 1 at end used w₁ w₂ r) (n : Ran pre body allowance w₂ r w′ q) where
   frame-is : valuesAt (slots w₁) 128 50 ≡ aside w
   unfolding aside
   frame-is = rw p₁ (values-moved (slots w) 1764 128 50 (omega (arith, wide w room)) (inr (omega arith)))

@@ -3,3 +3,4 @@ pub mod Growing
 pub mod SameBytes
 pub mod Ending
 pub mod Rowing
+pub mod Walking
