@@ -3,10 +3,9 @@ use Prim.Native.Nat.{ℕ, _+_, _-_, _≤_}
 use native.Mathlib.Omega.{arith}
 use mathlib.Core.Path.{_≡_, refl, sym, ap, _∙_}
 use mathlib.Core.Logic.{inl, inr}
-use mathlib.Core.List.{List, [], _∷_, _++_}
+use mathlib.Core.List.{List, [], _++_}
 use lib.ListN.{length, take, length-append}
 use lib.Seq.{take-at}
-use Rattle.table.specs.declared.Slot.{Slot}
 use Rattle.table.specs.Slots.{slots, copied, asc}
 use Rattle.table.proofs.Moves.{same-copied, length-copied}
 use Rattle.machine.specs.declared.Value.{Value}
@@ -17,20 +16,17 @@ use Rattle.machine.specs.Step.{run, begin}
 use Rattle.machine.specs.Page.{preambleEnd}
 use Rattle.literals.specs.Names.{both}
 use Rattle.state.specs.declared.Registers.{Registers}
-use Rattle.state.specs.Layout.{valuesAt, aside, abs, Good}
+use Rattle.state.specs.Layout.{valuesAt, aside, abs}
 use Rattle.state.specs.Operations.{filled, opening, Opened}
 use Rattle.state.proofs.Parts.{wide, room-of, stack-same, values-same, contexts-same, length-values}
 use Rattle.state.proofs.Ending.{state-path}
 use Rattle.state.proofs.Cutting.{values-cut, values-moved}
 use Rattle.state.proofs.Framing.{frame-filled}
 use Rattle.engine.specs.Bodies.{Ran}
+use Rattle.engine.proofs.ByOrigin.{empty}
 use Rattle.book.specs.Ran.{Preambled, Paged}
 use Rattle.book.proofs.Growing.{begin-grown}
 use Rattle.book.proofs.SameBytes.{preamble-alone}
-
-empty : (l : List ℕ) → length l ≡ 0 → l ≡ []
-empty [] e = refl
-empty (x ∷ l) e = absurd (omega arith)
 
 opened-begins : (code : List (List ℕ)) (origin at end : ℕ) (frame cells : List Value) → at ≡ solid (bytesOf code origin) 0 → end ≡ length (bytesOf code origin) → opening origin at end frame cells ≡ begin code origin frame cells
 unfolding opening begin
@@ -44,7 +40,7 @@ module _ (w w₁ w₂ w₃ w′ : List ℕ) (pre none : List ℕ) (at end allowa
 
   ended-as : abs w₃ q ≡ preambleEnd allowance pre
   unfolding preambleEnd
-  ended-as = n .does ∙ (rw (started, empty none alone) (preamble-alone pre allowance zeroFrame []))
+  ended-as = n .does ∙ (rw (started, empty none (sym alone)) (preamble-alone pre allowance zeroFrame []))
 
   same-state : abs w′ q ≡ abs w₃ q
   same-state =

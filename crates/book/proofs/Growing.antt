@@ -14,7 +14,6 @@ use Rattle.machine.specs.State.{Entry, val, mark, State}
 use Rattle.machine.specs.Literal.{Code}
 use Rattle.machine.specs.Contexts.{fault, settle, skippedIn, skipped}
 use Rattle.machine.specs.Engine.{limited, pops, push, charge, build, spell, compose, repeat, turn, worked, noted, store, place, removeAt, remove, tallyAt, tally, enter, inline, call, does, affected}
-use Rattle.machine.specs.Operators.{popped}
 use Rattle.machine.specs.Step.{execute, effectAt, begunIn, ended, dueIn, step, run, begin}
 use Rattle.machine.proofs.Changes.{OnSome, limited-on, provided-on}
 use Rattle.machine.proofs.Steps.{Begun, begins, step-by, run-keeps}

@@ -1,14 +1,13 @@
 -- A row as four words. Assumes nothing.
-use Prim.Native.Nat.{ℕ, zero, suc, _+_, _-_, _≤_, _<_}
+use Prim.Native.Nat.{ℕ, _+_, _-_, _≤_, _<_}
 use native.Mathlib.Omega.{arith}
 use mathlib.Core.Path.{_≡_, refl, sym, ap, _∙_}
-use mathlib.Core.Bool.{true, false, cond}
-use mathlib.Core.List.{List, [], _∷_, _++_, append-nil}
-use lib.ListN.{length}
+use mathlib.Core.Bool.{true, false}
+use mathlib.Core.List.{List, [], _++_, append-nil}
 use lib.Seq.{sets}
 use Rattle.table.specs.Slots.{slots}
 use Rattle.table.specs.Words.{wordBytes}
-use Rattle.table.proofs.Stores.{sets-append, word-length}
+use Rattle.table.proofs.SlotLists.{word-then}
 use Rattle.machine.specs.Step.{ended, outcome}
 use Rattle.machine.specs.Page.{bytesIn, rowWords, resultOf, rowBytes}
 use Rattle.state.specs.declared.Registers.{Registers}
@@ -28,9 +27,6 @@ module _ (q : Registers) where
   unfolding outcome ended contextsOf
   normally h e w = let z : q .depth ≡ 0 = omega arith in rw (z, e)
 
-next-word : (t : List ℕ) (p p′ x : ℕ) (ys : List ℕ) → p′ ≡ p + 4 → sets (sets t p (wordBytes x)) p′ ys ≡ sets t p (wordBytes x ++ ys)
-next-word t p p′ x ys e = rw e (rw word-length at (sets-append t p (wordBytes x) ys))
-
 row-is : (before : ℕ) (q : Registers) (w : List ℕ) → rowBytes (resultOf before (abs w q)) ≡ wordBytes (outcome (abs w q)) ++ (wordBytes (q .errors) ++ (wordBytes (q .steps) ++ (wordBytes (q .used - before) ++ [])))
 unfolding rowBytes resultOf rowWords bytesIn
 row-is before q w = rw (length-values (slots w) 728 (q .used)) refl
@@ -40,9 +36,9 @@ pub row-put : (t t₁ t₂ t₃ t₄ : List ℕ) (p before : ℕ) (q : Registers
 row-put t t₁ t₂ t₃ t₄ p before q o e s c eo p₁ ee p₂ es p₃ ec p₄ w =
     (rw (p₃, p₂, p₁) at p₄) ∙
     ap (sets (sets (sets (sets t p (wordBytes o)) (p + 4) (wordBytes e)) (p + 8) (wordBytes s)) (p + 12)) (sym (append-nil (wordBytes c))) ∙
-    next-word _ (p + 8) (p + 12) s _ (omega arith) ∙
-    next-word _ (p + 4) (p + 8) e _ (omega arith) ∙
-    next-word t p (p + 4) o _ refl ∙
+    word-then _ (p + 8) (p + 12) s _ (omega arith) ∙
+    word-then _ (p + 4) (p + 8) e _ (omega arith) ∙
+    word-then t p (p + 4) o _ refl ∙
     ap (sets t p) (words ∙ sym (row-is before q w))
   where
     words : wordBytes o ++ (wordBytes e ++ (wordBytes s ++ (wordBytes c ++ []))) ≡ wordBytes (outcome (abs w q)) ++ (wordBytes (q .errors) ++ (wordBytes (q .steps) ++ (wordBytes (q .used - before) ++ [])))

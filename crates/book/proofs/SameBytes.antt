@@ -1,7 +1,7 @@
 -- Two codes with the same bytes at every origin run alike. So the preamble may run beside a page without bytes. Assumes nothing.
 use Prim.Native.Nat.{ℕ, zero, suc}
-use mathlib.Core.Path.{_≡_, refl, sym, ap, _∙_}
-use mathlib.Core.Bool.{Bool, true, false, cond}
+use mathlib.Core.Path.{_≡_, refl, ap, _∙_}
+use mathlib.Core.Bool.{Bool, true, false}
 use mathlib.Core.List.{List, [], _∷_}
 use Rattle.machine.specs.declared.Value.{Value}
 use Rattle.machine.specs.declared.Value.the-variants.{Number, Identifier, Vector, Operator}
@@ -15,7 +15,7 @@ use Rattle.machine.specs.declared.Effect.the-variants.{Fail, Gives, Gives2, Act
 use Rattle.machine.specs.State.{State, running}
 use Rattle.machine.specs.Literal.{Code, bytesOf, textOf}
 use Rattle.machine.specs.Engine.{spell, worked, contextOf, inline, kept, call, does, affected}
-use Rattle.machine.specs.Step.{execute, literalStep, stepBy, dueIn, step, ended, run, begin}
+use Rattle.machine.specs.Step.{execute, literalStep, stepBy, dueIn, step, run, begin}
 use Rattle.literals.specs.Names.{both}
 
 module _ (c d : Code) (same : (o : ℕ) → bytesOf c o ≡ bytesOf d o) where

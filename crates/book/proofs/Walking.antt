@@ -1,14 +1,13 @@
 -- The pages of a master, one after another. In order: the bodies read so far are the first of all; a page's span is the next; the rows.
 -- Assumes nothing.
-use Prim.Native.Nat.{ℕ, zero, suc, _+_, _-_, _*_, _≤_, _<_}
+use Prim.Native.Nat.{ℕ, zero, suc, _+_, _-_, _*_}
 use native.Mathlib.Nat.{zero-add, add-zero}
 use native.Mathlib.Omega.{arith}
-use mathlib.Core.Path.{_≡_, refl, sym, ap, subst, _∙_}
-use mathlib.Core.Bool.{Bool, true, false, cond}
-use mathlib.Core.List.{List, [], _∷_, _++_, append-assoc, append-nil, map}
+use mathlib.Core.Path.{_≡_, refl, sym, ap, _∙_}
+use mathlib.Core.List.{List, [], _∷_, _++_, append-assoc, append-nil}
 use lib.Dec.{eqb, leb}
-use lib.ListN.{length, getD, length-append}
-use lib.Seq.{slice, sets, getD-append-add}
+use lib.ListN.{length, getD}
+use lib.Seq.{slice, sets}
 use Rattle.numbers.proofs.Cond.{either}
 use Rattle.table.specs.Words.{wordBytes}
 use Rattle.table.proofs.Stores.{sets-append}
@@ -18,7 +17,7 @@ use Rattle.tokens.specs.Token.{tokenAt}
 use Rattle.machine.specs.declared.Went.{Went}
 use Rattle.machine.specs.declared.Went.the-variants.{Past, Stop}
 use Rattle.machine.specs.Limits.{mostOpen, mostPages}
-use Rattle.machine.specs.Skeleton.{beginning, opening, ending, bodyAt, Span, Skeleton, sound, refused, onward, spanOf, endedAt, pageAt, outerBy, pagesFrom}
+use Rattle.machine.specs.Skeleton.{opening, ending, bodyAt, Span, Skeleton, sound, onward, spanOf, endedAt, pageAt, outerBy, pagesFrom}
 use Rattle.machine.specs.Page.{bodiesOf, resultAt, bytesIn, rowWords, rowBytes, rowsFrom}
 use Rattle.machine.proofs.Comments.{never}
 

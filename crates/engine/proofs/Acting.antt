@@ -3,10 +3,9 @@ use Prim.Native.Nat.{ℕ, _+_, _<_}
 use native.Mathlib.Omega.{arith}
 use mathlib.Core.Path.{_≡_, refl}
 use mathlib.Core.Bool.{Bool, true, false, cond}
-use mathlib.Core.List.{List, [], _∷_}
-use mathlib.Core.Option.{Option}
+use mathlib.Core.List.{List, []}
 use lib.IntN.{pos}
-use lib.ListN.{length, take, drop}
+use lib.ListN.{take, drop}
 use Rattle.numbers.specs.declared.Number as num
 use Rattle.table.specs.Slots.{slots}
 use Rattle.tokens.specs.Text.{lowered}
@@ -20,23 +19,19 @@ use Rattle.machine.specs.declared.Next.{Next}
 use Rattle.machine.specs.declared.Next.the-variants.{Works, Inline, Call, Store, Place, Remove, Tally}
 use Rattle.machine.specs.declared.Effect.{Effect}
 use Rattle.machine.specs.declared.Effect.the-variants.{Fail, Gives, Gives2, Acts}
-use Rattle.machine.specs.State.{State}
-use Rattle.machine.specs.Literal.{Code, textOf, sameBytes}
+use Rattle.machine.specs.Literal.{Code, textOf}
 use Rattle.machine.specs.Operand.{natural}
-use Rattle.machine.specs.Engine.{limited, provided, push, allCardinals, elementsOf, bit, build, spell, compose, repeat, turn, worked, store, place, remove, tally, inline, call, does, affected}
+use Rattle.machine.specs.Engine.{provided, push, allCardinals, elementsOf, bit, build, spell, compose, repeat, turn, worked, store, place, remove, tally, inline, call, does, affected}
 use Rattle.operators.specs.Sizes.{SizedWork, SizedNext, Sized}
 use Rattle.literals.specs.Names.{both, dataAt, sameText}
 use Rattle.state.specs.declared.Registers.{Registers}
-use Rattle.state.specs.Layout.{valuesAt, abs, aside, Busy, Tried}
+use Rattle.state.specs.Layout.{valuesAt, Busy, Tried}
 use Rattle.state.specs.Operations as table
 use Rattle.state.proofs.Trying.{trying, failed, tried-no, tried-yes, tried-as, fits-abs}
 use Rattle.engine.specs.declared.Place as at
+use Rattle.engine.proofs.ByOrigin.{empty}
 
 -- ---- texts
-
-empty : (d : List ℕ) → 0 ≡ length d → d ≡ []
-empty [] e = refl
-empty (b ∷ d) e = absurd (omega arith)
 
 pub no-text : (p : at.Place) → p ≡ record { origin = 2; start = 0 } → (pre body : List ℕ) → lowered (dataAt (both pre body) (p .origin) (p .start)) ≡ []
 unfolding lowered

@@ -1,7 +1,7 @@
 -- Bytes by origin, and what is read of those that are not there. Assumes nothing.
 use Prim.Native.Nat.{ℕ, zero, suc, _<_, _≤_}
 use native.Mathlib.Omega.{arith}
-use mathlib.Core.Path.{_≡_, refl, sym, ap, _∙_}
+use mathlib.Core.Path.{_≡_, refl, _∙_}
 use mathlib.Core.Logic.{_⊎_, inl, inr, ⊎-elim}
 use mathlib.Core.List.{List, [], _∷_}
 use lib.ListN.{length}
@@ -51,7 +51,7 @@ found-none : (at : ℕ) → Is (foundAt [] at) (record { literal = Plain 0; next
 unfolding foundAt foundBy nothingAt
 found-none at = rw (token-end [] at (omega arith)) (record { literal = refl; next = refl })
 
-empty : (d : List ℕ) → 0 ≡ length d → d ≡ []
+pub empty : (d : List ℕ) → 0 ≡ length d → d ≡ []
 empty [] e = refl
 empty (b ∷ d) e = absurd (omega arith)
 

@@ -1,5 +1,5 @@
 -- A literal executed, a step, and a run, in the words of the table. Assumes nothing.
-use Prim.Native.Nat.{ℕ, zero, suc, _+_, _-_, _%_, _≤_, _<_}
+use Prim.Native.Nat.{ℕ, zero, suc, _+_, _-_, _≤_, _<_}
 use native.Mathlib.Nat.{mod-lt}
 use native.Mathlib.Omega.{arith}
 use mathlib.Core.Path.{_≡_, refl, sym, ap, _∙_}
@@ -25,9 +25,9 @@ use Rattle.machine.specs.State.{State, running}
 use Rattle.machine.specs.Literal.{Code, bytesOf, foundAt}
 use Rattle.machine.specs.Operators.{opOf, bodyOpOf, arityOf, effectOf, popped, performed}
 use Rattle.machine.specs.Ops.Control.{bodyArity, bodyEffect}
-use Rattle.machine.specs.Contexts.{above, fault, settle, skippedIn, skipped}
-use Rattle.machine.specs.Engine.{provided, values, has, pops, push, spell, worked, does, affected}
-use Rattle.machine.specs.Step.{effectAt, execute, executed, isUnmark0, begun, literalStep, ended, stepBy, dueIn, step, run}
+use Rattle.machine.specs.Contexts.{above, fault, settle, skipped}
+use Rattle.machine.specs.Engine.{provided, values, pops, push, spell, worked, does, affected}
+use Rattle.machine.specs.Step.{effectAt, execute, executed, isUnmark0, literalStep, ended, stepBy, dueIn, step, run}
 use Rattle.machine.proofs.Inside.{HeldIn, found-inside}
 use Rattle.literals.specs.declared.Due.{Due}
 use Rattle.literals.specs.Dues.{Is}
@@ -41,7 +41,7 @@ use Rattle.state.proofs.Parts.{contexts-top, contexts-at, length-stack}
 use Rattle.state.proofs.Cutting.{over-above}
 use Rattle.state.proofs.Trying.{trying, failed, tried-no, tried-as, tried-from, pops-is}
 use Rattle.state.proofs.Stacking.{above-few}
-use Rattle.engine.specs.Bodies.{Short, SizedLiteral, performs, Stepped, Ran}
+use Rattle.engine.specs.Bodies.{Short, SizedLiteral, performs, Stepped}
 use Rattle.engine.proofs.ByOrigin.{bytes-short}
 
 -- ---- the values that an operator reads

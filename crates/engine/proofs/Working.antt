@@ -1,8 +1,7 @@
 -- The engine's part of an operator where it needs bytes, in the words of the table. Assumes nothing.
 use Prim.Native.Nat.{ℕ, _+_, _-_, _<_, _≤_}
-use native.Mathlib.Omega.{arith}
-use mathlib.Core.Path.{_≡_, refl, sym, ap, _∙_}
-use mathlib.Core.Bool.{Bool, true, false, _&&_}
+use mathlib.Core.Path.{_≡_}
+use mathlib.Core.Bool.{Bool}
 use mathlib.Core.List.{List}
 use borrow.Author.Tests.{le-leb, lt-leb}
 use lib.ListN.{length, getD}
@@ -13,7 +12,7 @@ use Rattle.machine.specs.Skeleton.{solid}
 use Rattle.machine.specs.Literal.{bytesOf, Code}
 use Rattle.machine.specs.Engine.{provided, spell, contextOf, inline, kept, call}
 use Rattle.state.specs.declared.Registers.{Registers}
-use Rattle.state.specs.Layout.{contextIn, contextsOf, abs, Busy, Tried}
+use Rattle.state.specs.Layout.{contextIn, contextsOf, Busy, Tried}
 use Rattle.state.specs.Operations as table
 use Rattle.state.proofs.Parts.{contexts-at, length-values}
 use Rattle.state.proofs.Trying.{failed, tried-no, tried-as}

@@ -2,16 +2,14 @@
 -- Assumes nothing.
 use Prim.Native.Nat.{ℕ, _+_, _<_, _≤_}
 use mathlib.Core.Path.{_≡_}
-use mathlib.Core.Bool.{Bool, true, false, cond}
+use mathlib.Core.Bool.{Bool, true, false}
 use mathlib.Core.List.{List, [], _∷_}
-use lib.ListN.{length, getD}
+use lib.ListN.{length}
 use lib.Seq.{sets}
-use Rattle.tokens.specs.declared.Piece.{Piece}
-use Rattle.tokens.specs.declared.Piece.the-variants.{Missing}
 use Rattle.tokens.specs.declared.Read.{Read}
 use Rattle.tokens.specs.declared.Read.the-variants.{Number, Identifier, String, Operator, Comment, Unread}
 use Rattle.tokens.specs.Text.{lowered}
-use Rattle.tokens.specs.Joined.{Joined, whole, cutAt, continued, pieceAt, joinedFrom, joinedAt}
+use Rattle.tokens.specs.Joined.{whole, joinedAt}
 use Rattle.tokens.specs.Token.{tokenAt}
 use Rattle.lists.specs.declared.Place.{Place}
 use Rattle.lists.specs.declared.Step.{Step}

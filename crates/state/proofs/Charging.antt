@@ -26,7 +26,8 @@ use Rattle.state.specs.Layout.{valueIn, entryIn, stackOf, valuesAt, fram
 use lib.ListN.{length-map}
 use lib.Seq.{sets, length-sets, slice, slice-cons}
 use Rattle.tokens.specs.Joined.{Joined, whole, cutAt, dataOf, joinedAt, FitsText}
-use Rattle.tokens.proofs.Copying.{Shows, Bytes, data-bytes}
+use Rattle.table.proofs.WordLists.{Bytes}
+use Rattle.tokens.proofs.Copying.{Shows, data-bytes}
 use Rattle.machine.specs.Literal.{numbers, lettersAt}
 use Rattle.state.specs.Operations.{letterSlots, spell}
 use Rattle.state.proofs.Coding.{vector-slot}

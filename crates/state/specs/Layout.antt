@@ -8,11 +8,11 @@ use mathlib.Core.List.{List, [], _∷_, map}
 use mathlib.Core.Option.{Option, none, some}
 use Prim.Native.Nat.{ℕ, zero, suc, _+_, _*_, _%_, _≤_, _<_}
 use lib.Dec.{eqb}
-use lib.ListN.{length, getD, set, take, drop}
+use lib.ListN.{length, getD, take}
 use mir.Syntax.{w32}
 use mir.Val.{toZ}
 use Rattle.table.specs.declared.Slot.{Slot}
-use Rattle.table.specs.Slots.{nil, mk, slots, asc, desc, copied}
+use Rattle.table.specs.Slots.{nil, slots, asc, desc}
 use Rattle.machine.specs.declared.Value.{Value}
 use Rattle.machine.specs.declared.Value.the-variants.{Number, Identifier, Vector, Operator}
 use Rattle.machine.specs.Limits.{frameSize, mostEntries, mostContexts, mostCells, scratchSize}

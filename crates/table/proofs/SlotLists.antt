@@ -84,7 +84,8 @@ get-slot w k h =
     let e₄ : 20 * k + 16 ≡ 4 * (5 * k + 4) = omega arith in
     rw (e₁, e₂, e₃, e₄, e₀) (got-slot w k h)
 
-word-then : (t : List ℕ) (q q′ x : ℕ) (ys : List ℕ) → q′ ≡ q + 4 → sets (sets t q (wordBytes x)) q′ ys ≡ sets t q (wordBytes x ++ ys)
+-- a word, and what follows it
+pub word-then : (t : List ℕ) (q q′ x : ℕ) (ys : List ℕ) → q′ ≡ q + 4 → sets (sets t q (wordBytes x)) q′ ys ≡ sets t q (wordBytes x ++ ys)
 word-then t q q′ x ys e = rw e (rw word-length at (sets-append t q (wordBytes x) ys))
 
 -- the words of a slot one after another

@@ -9,6 +9,7 @@ use borrow.Author.Tests.{lt-leb}
 use lib.ListN.{length, getD, take, drop, length-append}
 use lib.Seq.{slice, sets}
 use Rattle.table.proofs.Stores.{sets-append}
+use Rattle.table.proofs.WordLists.{Bytes, bytes-take}
 use Rattle.tokens.specs.declared.Piece.{Piece}
 use Rattle.tokens.specs.declared.Piece.the-variants.{Data, Missing}
 use Rattle.tokens.specs.declared.Summary.{Summary}
@@ -195,19 +196,10 @@ module _ (s : List ℕ) (at f n t : ℕ) (r : Gathered) (p : pieceAt s at ≡ Da
   pub size-cut : {place : ℕ} → r ≡ Broken place → 0 ≡ length (dataOf (joinedAt s at))
   size-cut {place} h = rw (joined-data s at f n p) (none-cut t _ place (sym e ∙ h))
 
-abbrev pub Bytes : List ℕ → Type 0
-Bytes s = (i : ℕ) → getD s i 0 < 256
-
 bytes-append : (d e : List ℕ) → Bytes d → Bytes e → Bytes (d ++ e)
 bytes-append [] e f g i = g i
 bytes-append (b ∷ d) e f g zero = f 0
 bytes-append (b ∷ d) e f g (suc i) = bytes-append d e (λ j. f (suc j)) g i
-
-bytes-take : (n : ℕ) (s : List ℕ) → Bytes s → Bytes (take n s)
-bytes-take zero s f i = omega arith
-bytes-take (suc n) [] f i = omega arith
-bytes-take (suc n) (b ∷ s) f zero = f 0
-bytes-take (suc n) (b ∷ s) f (suc i) = bytes-take n s (λ j. f (suc j)) i
 
 bytes-drop : (n : ℕ) (s : List ℕ) → Bytes s → Bytes (drop n s)
 bytes-drop zero s f i = f i

@@ -11,7 +11,7 @@ use Rattle.tokens.specs.declared.Piece.{Piece}
 use Rattle.tokens.specs.declared.Piece.the-variants.{Data, Missing}
 use Rattle.tokens.specs.Joined.{Joined, whole, cutAt, pieceAt, continued, onPiece, joinedFrom, joinedAt}
 use Rattle.numbers.proofs.Cond.{either}
-use Rattle.tokens.proofs.HighFirst.{Bytes}
+use Rattle.table.proofs.WordLists.{Bytes}
 use Rattle.tokens.proofs.Pieces.{Inside, inside}
 use Rattle.tokens.proofs.Summaries.{part-length}
 use Rattle.tokens.proofs.Turns.{at-end}

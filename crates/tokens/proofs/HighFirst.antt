@@ -10,6 +10,7 @@ use lib.Pow.{shl-exact, pow-mono, pow-add, high, low}
 use lib.Bits.{bitOr, or-shifted}
 use lib.ListN.{length, getD, take, drop, length-drop, take-append-drop}
 use lib.Seq.{slice, slice-cons, getD-drop}
+use Rattle.table.proofs.WordLists.{Bytes}
 use Rattle.tokens.specs.Bytes.{valueAfter}
 
 -- one more byte below v, by a shift and an or at 64 bits
@@ -30,10 +31,6 @@ wider i j h hv = lt-of-lt-of-le hv (pow-mono {i = 8 * i} {j = 8 * j} (omega arit
 pub next : (s : List ℕ) (f t v : ℕ) → f < t → t ≤ length s → valueAfter v (slice f t s) ≡ valueAfter (v * 256 + getD s f 0) (slice (suc f) t s)
 unfolding valueAfter
 next s f t v h k = ap (valueAfter v) (slice-cons f t s 0 h k)
-
--- every element is a byte
-abbrev pub Bytes : List ℕ → Type 0
-Bytes d = (i : ℕ) → getD d i 0 < 256
 
 pub value-append : (a : ℕ) (d e : List ℕ) → valueAfter a (d ++ e) ≡ valueAfter (valueAfter a d) e
 unfolding valueAfter

@@ -20,7 +20,8 @@ use Rattle.tokens.specs.Joined.{Joined, whole, cutAt}
 use Rattle.tokens.specs.Token.{numberRead, integerSize, rationalSize, rationalIn, judged, sequence}
 use Rattle.tokens.specs.Inner.{ruleOf, roomOf, summaryOf, gatheredOf, rationalBy, judgedBy}
 use Rattle.numbers.proofs.Cond.{under, both, by-test}
-use Rattle.tokens.proofs.HighFirst.{Bytes, halves}
+use Rattle.table.proofs.WordLists.{Bytes}
+use Rattle.tokens.proofs.HighFirst.{halves}
 
 -- the value of at most eight bytes is that of the first eight
 first-eight : (d : List ℕ) → length d ≤ 8 → valueAfter 0 (take 8 d) ≡ valueAfter 0 d

@@ -19,7 +19,7 @@ use Rattle.tokens.specs.Text.{obeys, every, isName}
 use Rattle.tokens.specs.Joined.{within, pieceAt, onPiece, joinedFrom, joinedAt}
 use Rattle.tokens.specs.Token.{numberRead, judged, sequence, tokenOf, tokenAt}
 use Rattle.tokens.specs.Cases.{Case, cases}
-use Rattle.tokens.proofs.HighFirst.{Bytes}
+use Rattle.table.proofs.WordLists.{Bytes}
 use Rattle.tokens.proofs.Told.{Told, Tells, token-told, token-tells}
 use Rattle.tokens.proofs.Numbers.{same-number}
 

@@ -24,7 +24,7 @@ use Rattle.tokens.specs.Text.{every, isName}
 use Rattle.tokens.specs.Joined.{Joined, whole, cutAt, joinedAt}
 use Rattle.tokens.specs.Token.{numberRead, integerSize, integerIn, rationalSize, judged, sequence, pair, tokenOf, tokenAt}
 use Rattle.numbers.proofs.Cond.{either}
-use Rattle.tokens.proofs.HighFirst.{Bytes}
+use Rattle.table.proofs.WordLists.{Bytes}
 use Rattle.tokens.proofs.Signs.{abs-diff-le}
 use Rattle.tokens.proofs.Ends.{Ends, joined-ends}
 

@@ -1,7 +1,7 @@
 use Rattle.tokens.proofs.Ends.{joined-bytes}
 use Rattle.tokens.proofs.Judged.{sequence-whole, sequence-broken}
 use Rattle.tokens.proofs.Pieces.{Inside, inside, joined-data, joined-missing}
-use Rattle.tokens.proofs.HighFirst.{Bytes}
+use Rattle.table.proofs.WordLists.{Bytes}
 use Rattle.tokens.specs.Inner.{gatheredOf, judgedBy}
 use Rattle.tokens.specs.Token.{sequence}
 use Rattle.tokens.specs.Joined.{joinedAt}
