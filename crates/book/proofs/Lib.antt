@@ -4,3 +4,4 @@ pub mod SameBytes
 pub mod Ending
 pub mod Rowing
 pub mod Walking
+pub mod Paging

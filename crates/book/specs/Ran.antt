@@ -1,10 +1,13 @@
 -- What the preamble and a page leave in the table, for contracts of inner functions. Assumes nothing.
-use Prim.Native.Nat.{ℕ, _≤_}
+use Prim.Native.Nat.{ℕ, _*_, _≤_}
 use mathlib.Core.Path.{_≡_}
 use mathlib.Core.List.{List}
+use lib.ListN.{length}
+use lib.Seq.{sets}
 use Rattle.table.specs.Slots.{slots}
 use Rattle.machine.specs.Step.{run, begin}
-use Rattle.machine.specs.Page.{preambleEnd}
+use Rattle.machine.specs.Limits.{scratchSize, mostCells}
+use Rattle.machine.specs.Page.{preambleEnd, pageResult, rowBytes}
 use Rattle.literals.specs.Names.{both}
 use Rattle.state.specs.declared.Registers.{Registers}
 use Rattle.state.specs.Layout.{valuesAt, aside, abs, Good}
@@ -24,3 +27,15 @@ pub record Paged (pre body : List ℕ) (used allowance : ℕ) (w w′ : List ℕ
   pub cells : valuesAt (slots w′) 728 used ≡ valuesAt (slots w) 728 used
   pub more : used ≤ r .used
   pub counted : r .steps ≤ allowance
+
+-- what a page starts from: the preamble's final frame, kept aside, and its cells
+pub record Ready (pre : List ℕ) (allowance used : ℕ) (w : List ℕ) : Type 0 where
+  pub room : scratchSize ≤ length w
+  pub frame-kept : aside w ≡ preambleEnd allowance pre .frame
+  pub cells-kept : valuesAt (slots w) 728 used ≡ preambleEnd allowance pre .cells
+  pub few : used ≤ mostCells
+
+-- a page run and its row written; the next may start
+pub record Rowed (pre body : List ℕ) (allowance used n : ℕ) (w′ rows rows′ : List ℕ) : Type 0 where
+  pub ready : Ready pre allowance used w′
+  pub row : rows′ ≡ sets rows (16 * n) (rowBytes (pageResult allowance pre body))
