@@ -7,11 +7,10 @@ use lib.ListN.{length, take, drop}
 use lib.Seq.{sets, slice}
 use Rattle.table.specs.Slots.{slots}
 use Rattle.tokens.proofs.Summaries.{take-drop}
-use Rattle.machine.specs.Step.{run, begin}
+use Rattle.machine.specs.Step.{run}
 use Rattle.machine.specs.Page.{preambleEnd, pageStart, pageEnd, resultOf, pageResult, rowBytes}
-use Rattle.literals.specs.Names.{both}
 use Rattle.state.specs.declared.Registers.{Registers}
-use Rattle.state.specs.Layout.{valuesAt, aside, abs}
+use Rattle.state.specs.Layout.{abs}
 use Rattle.state.proofs.Parts.{length-values}
 use Rattle.book.specs.Ran.{Paged, Ready, Rowed}
 

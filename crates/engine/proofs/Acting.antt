@@ -24,11 +24,11 @@ use Rattle.machine.specs.Operand.{natural}
 use Rattle.machine.specs.Engine.{provided, push, allCardinals, elementsOf, bit, build, spell, compose, repeat, turn, worked, store, place, remove, tally, inline, call, does, affected}
 use Rattle.operators.specs.Sizes.{SizedWork, SizedNext, Sized}
 use Rattle.literals.specs.Names.{both, dataAt, sameText}
+use Rattle.state.specs.declared.Place as at
 use Rattle.state.specs.declared.Registers.{Registers}
 use Rattle.state.specs.Layout.{valuesAt, Busy, Tried}
 use Rattle.state.specs.Operations as table
 use Rattle.state.proofs.Trying.{trying, failed, tried-no, tried-yes, tried-as, fits-abs}
-use Rattle.engine.specs.declared.Place as at
 use Rattle.engine.proofs.ByOrigin.{empty}
 
 -- ---- texts

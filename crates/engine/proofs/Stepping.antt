@@ -10,10 +10,10 @@ use borrow.Author.Tests.{le-leb, lt-leb}
 use mir.Syntax.{w32}
 use mir.Val.{toZ}
 use lib.Dec.{eqb}
-use lib.ListN.{length, getD, take}
+use lib.ListN.{length, take}
 use Rattle.numbers.specs.declared.Number as num
 use Rattle.table.specs.declared.Slot.{Slot}
-use Rattle.table.specs.Slots.{slots, nil}
+use Rattle.table.specs.Slots.{slots}
 use Rattle.machine.specs.declared.Value.{Value}
 use Rattle.machine.specs.declared.Value.the-variants.{Number, Identifier, Vector, Operator}
 use Rattle.machine.specs.declared.Op.{Op}
@@ -33,11 +33,12 @@ use Rattle.literals.specs.declared.Due.{Due}
 use Rattle.literals.specs.Dues.{Is}
 use Rattle.literals.specs.Names.{both}
 use Rattle.operators.specs.Sizes.{Small}
+use Rattle.state.specs.declared.Place.{Place}
 use Rattle.state.specs.declared.Registers.{Registers}
 use Rattle.state.specs.declared.Tops.{Tops}
-use Rattle.state.specs.Layout.{half, valueIn, stackOf, contextIn, contextsOf, abs, aside, Good, Busy, Done, answer, Tried, Begun, Topmost}
+use Rattle.state.specs.Layout.{half, valueIn, stackOf, contextsOf, abs, aside, Good, Busy, Done, answer, Tried, Begun, Topmost}
 use Rattle.state.specs.Operations as table
-use Rattle.state.proofs.Parts.{contexts-top, contexts-at, length-stack}
+use Rattle.state.proofs.Parts.{contexts-top, length-stack}
 use Rattle.state.proofs.Cutting.{over-above}
 use Rattle.state.proofs.Trying.{trying, failed, tried-no, tried-as, tried-from, pops-is}
 use Rattle.state.proofs.Stacking.{above-few}
@@ -209,18 +210,14 @@ sized-due b at d h i = rw (i .literal) (sized (foundAt b at .literal) (length b)
 pub sized-here : (pre body : List ℕ) (o at : ℕ) (d : Due) → Short pre body → Is (foundAt (bytesOf (both pre body) o) at) d → SizedLiteral (d .literal)
 sized-here pre body o at d h i = sized-due (bytesOf (both pre body) o) at d (bytes-short pre body o h) i
 
-running-at : (w : List ℕ) (r : Registers) (c : Slot) → 0 < r .depth → c ≡ getD (slots w) (1752 + (r .depth - 1)) nil → (running (contextsOf (slots w) (r .depth)) .origin ≡ c .a) × (running (contextsOf (slots w) (r .depth)) .at ≡ c .b)
-unfolding running contextIn
-running-at w r c h e = (rw (contexts-at (slots w) (r .depth) c h e), rw (contexts-at (slots w) (r .depth) c h e))
-
-module _ {w w₁ : List ℕ} {r q : Registers} (pre body : List ℕ) (c : Slot) (d : Due) (n : ℕ) (b : Bool) (live : 0 < r .depth) (got : c ≡ getD (slots w) (1752 + (r .depth - 1)) nil)
-    (due : Is (foundAt (bytesOf (both pre body) (c .a)) (c .b)) d) (en : n ≡ d .next) (be : Begun n w r w₁ q) (eb : b ≡ q .skipping && not (isUnmark0 (d .literal))) where
+module _ {w w₁ : List ℕ} {r q : Registers} (pre body : List ℕ) (c : Place) (d : Due) (n : ℕ) (b : Bool)
+    (here : (c .origin ≡ running (contextsOf (slots w) (r .depth)) .origin) × (c .start ≡ running (contextsOf (slots w) (r .depth)) .at))
+    (due : Is (foundAt (bytesOf (both pre body) (c .origin)) (c .start)) d) (en : n ≡ d .next) (be : Begun n w r w₁ q) (eb : b ≡ q .skipping && not (isUnmark0 (d .literal))) where
   is-step : step (both pre body) (abs w r) ≡ literalStep (both pre body) b (d .literal) (abs w₁ q)
   unfolding step stepBy dueIn
   is-step =
-      let p = running-at w r c live got in
       let s : b ≡ r .skipping && not (isUnmark0 (d .literal)) = eb ∙ ap (λ (x : Bool). x && not (isUnmark0 (d .literal))) (be .skips) in
-      rw (p .0, p .1, ← (due .literal), ← (due .next), ← en, ← (be .does), ← s)
+      rw (← (here .0), ← (here .1), ← (due .literal), ← (due .next), ← en, ← (be .does), ← s)
 
   pub step-skip : {w′ : List ℕ} {r′ : Registers} → b ≡ true → Done skipped w₁ q w′ r′ → Stepped pre body w r w′ r′
   unfolding literalStep

@@ -4,22 +4,17 @@ use mathlib.Core.Path.{_≡_}
 use mathlib.Core.Bool.{Bool}
 use mathlib.Core.List.{List}
 use borrow.Author.Tests.{le-leb, lt-leb}
-use lib.ListN.{length, getD}
-use Rattle.table.specs.declared.Slot.{Slot}
-use Rattle.table.specs.Slots.{slots, nil}
+use lib.ListN.{length}
+use Rattle.table.specs.Slots.{slots}
 use Rattle.machine.specs.State.{running}
 use Rattle.machine.specs.Skeleton.{solid}
 use Rattle.machine.specs.Literal.{bytesOf, Code}
 use Rattle.machine.specs.Engine.{provided, spell, contextOf, inline, kept, call}
 use Rattle.state.specs.declared.Registers.{Registers}
-use Rattle.state.specs.Layout.{contextIn, contextsOf, Busy, Tried}
+use Rattle.state.specs.Layout.{contextsOf, Busy, Tried}
 use Rattle.state.specs.Operations as table
-use Rattle.state.proofs.Parts.{contexts-at, length-values}
+use Rattle.state.proofs.Parts.{length-values}
 use Rattle.state.proofs.Trying.{failed, tried-no, tried-as}
-
-pub origin-is : (w : List ℕ) (d : ℕ) (c : Slot) → 0 < d → c ≡ getD (slots w) (1752 + (d - 1)) nil → c .a ≡ running (contextsOf (slots w) d) .origin
-unfolding running contextIn
-origin-is w d c h e = rw (contexts-at (slots w) d c h e)
 
 pub spell-as : {w w′ : List ℕ} {r r′ : Registers} (code : Code) (start o : ℕ) → o ≡ running (contextsOf (slots w) (r .depth)) .origin → Tried (table.spell (bytesOf code o) start) w r w′ r′ → Tried (spell code start) w r w′ r′
 unfolding spell table.spell

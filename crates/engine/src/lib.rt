@@ -2,9 +2,3 @@
 pub mod origins; // the bytes that a context and a value point into
 pub mod steps; // a literal, a step, a body under an allowance
 pub mod works; // the engine's part of an operator
-
-// A token of the body with that origin.
-pub struct Place {
-    pub origin: u32,
-    pub start: u32,
-}

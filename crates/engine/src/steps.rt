@@ -106,8 +106,8 @@ fn step(w: &mut [u8], r: Registers, pre: &[u8], body: &[u8]) -> Registers
     requires { ⌜ Good (now w) r × (0 < r .depth) × (r .steps < 4294967295) × Short (now pre) (now body) ⌝ }
     ensures { λ q. ⌜ Stepped (now (pre .entry)) (now (body .entry)) (now (w .entry)) r (now (w .exit)) q ⌝ }
 {
-    let c = table::slots::get(w, 1752 + (r.depth - 1));
-    let d = crate::origins::due_of(pre, body, c.a, c.b);
+    let c = state::bodies::running(w, r.depth);
+    let d = crate::origins::due_of(pre, body, c.origin, c.start);
     let q = state::bodies::begin(w, r, table::words::word(d.next));
     let x = d.literal;
     let b = passes(q.skipping, x);

@@ -15,28 +15,19 @@ ghost use Rattle.operators.specs.Sizes.{SizedWork, SizedNext, Sized};
 ghost use Rattle.state.specs.Layout.{contextsOf, Busy, Tried};
 ghost use Rattle.literals.specs.Names.{both, dataAt};
 ghost use Rattle.engine.specs.Bodies.{Short};
-use crate::Place;
 use machine::Effect;
 use machine::Next;
 use machine::Work;
+use state::Place;
 use state::Registers;
-
-// The origin of the running body.
-fn origin_of(w: &[u8], depth: usize) -> u32
-    requires { ⌜ (0 < depth) × (depth ≤ 12) × (48000 ≤ length (now w)) ⌝ }
-    ensures { λ r. ⌜ r ≡ running (contextsOf (slots (now (w .entry))) depth) .origin ⌝ }
-{
-    let c = table::slots::get(w, 1752 + (depth - 1));
-    c.a
-}
 
 // The string token at `start` of the running body becomes a vector.
 pub fn spell(w: &mut [u8], r: Registers, pre: &[u8], body: &[u8], start: usize) -> Registers
     requires { ⌜ Busy (now w) r ⌝ }
     ensures { λ q. ⌜ Tried (spell (both (now (pre .entry)) (now (body .entry))) start) (now (w .entry)) r (now (w .exit)) q ⌝ }
 {
-    let o = origin_of(w, r.depth);
-    crate::origins::spell_of(w, r, pre, body, o, start)
+    let c = state::bodies::running(w, r.depth);
+    crate::origins::spell_of(w, r, pre, body, c.origin, start)
 }
 
 // A body of the running one entered with a copy of its frame.
@@ -52,8 +43,8 @@ fn inline(
     requires { ⌜ Busy (now w) r × Short (now pre) (now body) × (start + len < 4294967296) ⌝ }
     ensures { λ q. ⌜ Tried (inline (both (now (pre .entry)) (now (body .entry))) start len owes) (now (w .entry)) r (now (w .exit)) q ⌝ }
 {
-    let o = origin_of(w, r.depth);
-    let at = crate::origins::solid_of(pre, body, o, start);
+    let c = state::bodies::running(w, r.depth);
+    let at = crate::origins::solid_of(pre, body, c.origin, start);
     state::bodies::inline(w, r, at, start + len, owes)
 }
 

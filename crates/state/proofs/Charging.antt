@@ -29,7 +29,7 @@ use Rattle.tokens.specs.Joined.{Joined, whole, cutAt, dataOf, joinedAt, FitsTex
 use Rattle.table.proofs.WordLists.{Bytes}
 use Rattle.tokens.proofs.Copying.{Shows, data-bytes}
 use Rattle.machine.specs.Literal.{numbers, lettersAt}
-use Rattle.state.specs.Operations.{letterSlots, spell}
+use Rattle.state.specs.Operations.{letterSlots, VectorPut, spell}
 use Rattle.state.proofs.Coding.{vector-slot}
 use Rattle.state.proofs.Cutting.{map-append}
 use Rattle.state.proofs.Parts.{wide, room-of, stack-same, values-same, contexts-same, aside-same, length-stack, length-values, length-contexts, stack-more, contexts-at}
@@ -124,6 +124,11 @@ module _ {w : List ℕ} {r : Registers} (f : State → Option State) (s : List E
 cells-long : (w : List ℕ) (u b n : ℕ) → length (valuesAt (slots w) 728 u ++ valuesAt (slots w) b n) ≡ u + n
 cells-long w u b n = rw (length-append, length-values (slots w) 728 u, length-values (slots w) b n)
 
+-- ---- a vector put
+
+pub vector-put : (a lower n f c : ℕ) (w : List ℕ) (r : Registers) (w′ : List ℕ) (r′ : Registers) → f ≡ r .used → c ≡ n → slots w′ ≡ set (slots w) a (mk 3 f lower c 0) → r′ ≡ trying r (a + 1) (r .depth) (r .used + n) true → VectorPut a lower n w r w′ r′
+vector-put a lower n f c w r w′ r′ ef ec p q = record { put = rw (← ef, ← ec) p; registers = q }
+
 -- ---- MAKEVEC
 
 vector-entry : (f l n : ℕ) → f < 2147483648 → l < 2147483648 → n < 2147483648 → entryIn (mk 3 f l n 0) ≡ val (Vector f l n)
@@ -155,18 +160,16 @@ module _ {w : List ℕ} {r : Registers} (lower n : ℕ) (g : Busy w r) where
         pub build-over : {r′ : Registers} → 1024 < r .used + n → r′ ≡ failed r → Tried (build lower n) w r w r′
         build-over {r′} f q = charge-over (build lower n) _ _ g build-is (omega (arith, length-stack (slots w) (r .height - n))) (omega (arith, cells-long w (r .used) (r .height - n) n)) q
 
-        pub build-yes : {w′ : List ℕ} {r′ : Registers} (w₁ : List ℕ) (f c : ℕ) → lower < 2147483648 → r .used + n ≤ 1024 → f ≡ r .used → c ≡ n → slots w₁ ≡ copied (slots w) (r .height - n) (728 + r .used) n → slots w′ ≡ set (slots w₁) (r .height - n) (mk 3 f lower c 0)
-            → r′ ≡ trying r (r .height - n + 1) (r .depth) (r .used + n) true → Tried (build lower n) w r w′ r′
-        build-yes {w′} {r′} w₁ f c small u ef ec p₁ p q =
+        pub build-yes : {w′ : List ℕ} {r′ : Registers} (w₁ : List ℕ) → lower < 2147483648 → r .used + n ≤ 1024 → slots w₁ ≡ copied (slots w) (r .height - n) (728 + r .used) n → VectorPut (r .height - n) lower n w₁ r w′ r′ → Tried (build lower n) w r w′ r′
+        build-yes {w′} {r′} w₁ small u p₁ v =
             let m = slots w in
             let a = r .height - n in
             let l = few n b g eb there in
             let room = wide w (g .room) in
-            let v = mk 3 (r .used) lower n 0 in
             let m₁ = copied m a (728 + r .used) n in
-            charged-tried a n v (Vector (r .used) lower n) _ m₁ g (omega arith) u (vector-entry (r .used) lower n (omega arith) small (omega arith)) (length-copied m a (728 + r .used) n)
+            charged-tried a n (mk 3 (r .used) lower n 0) (Vector (r .used) lower n) _ m₁ g (omega arith) u (vector-entry (r .used) lower n (omega arith) small (omega arith)) (length-copied m a (728 + r .used) n)
             (same-copied m a (728 + r .used) n 0 _ (inr (omega arith))) (same-copied m a (728 + r .used) n 1752 1814 (inl (omega arith)))
-            (values-moved m a (728 + r .used) n (omega arith) (inl (omega arith))) w′ (rw (ef, ec, p₁) at p) (build lower n) build-is q
+            (values-moved m a (728 + r .used) n (omega arith) (inl (omega arith))) w′ (rw p₁ at (v .put)) (build lower n) build-is (v .registers)
 
 -- ---- MAKESIMPLECO
 
@@ -270,10 +273,9 @@ module _ {w : List ℕ} {r : Registers} (b : List ℕ) (at n : ℕ) (g : Busy w 
         charge-over (spell b at) _ _ g spell-is (omega (arith, length-stack (slots w) (r .height))) (omega arith) q
 
     module _ (ok : n ≤ 1024 - r .used) (bytes : Bytes b) where
-      pub spell-yes : {w′ : List ℕ} {r′ : Registers} (w₁ : List ℕ) (f c : ℕ) → slots w₁ ≡ sets (slots w) (728 + r .used) (letterSlots (dataOf (joinedAt b at))) → f ≡ r .used → c ≡ n → slots w′ ≡ set (slots w₁) (r .height) (mk 3 f 0 c 0)
-          → r′ ≡ trying r (r .height + 1) (r .depth) (r .used + n) true → Tried (spell b at) w r w′ r′
+      pub spell-yes : {w′ : List ℕ} {r′ : Registers} (w₁ : List ℕ) → slots w₁ ≡ sets (slots w) (728 + r .used) (letterSlots (dataOf (joinedAt b at))) → VectorPut (r .height) 0 n w₁ r w′ r′ → Tried (spell b at) w r w′ r′
       unfolding spelt
-      spell-yes {w′} {r′} w₁ f c p₁ ef ec p q =
+      spell-yes {w′} {r′} w₁ p₁ v =
           let m = slots w in
           let d = dataOf (joinedAt b at) in
           let k = 728 + r .used in
@@ -283,9 +285,4 @@ module _ {w : List ℕ} {r : Registers} (b : List ℕ) (at n : ℕ) (g : Busy w 
           let made : valuesAt (sets m k vs) k n ≡ numbers d =
           ap (valuesAt (sets m k vs) k) (sym l) ∙ sets-values vs m k (omega arith) ∙ letters-are d (data-bytes b at bytes) in
           charged-tried (r .height) n (mk 3 (r .used) 0 n 0) (Vector (r .used) 0 n) _ (sets m k vs) g st (omega arith) (vector-entry (r .used) 0 n (omega arith) (omega arith) (omega arith)) (length-sets m k vs)
-          (λ i s t. sets-out vs m k i (inl t)) (λ i s t. sets-out vs m k i (inr (omega arith))) made w′ (rw (ef, ec, p₁) at p) (spell b at) spell-is q
-
-      -- no data: nothing is put
-      pub spell-none : {w′ : List ℕ} {r′ : Registers} (f c : ℕ) → n ≤ 0 → f ≡ r .used → c ≡ n → slots w′ ≡ set (slots w) (r .height) (mk 3 f 0 c 0)
-          → r′ ≡ trying r (r .height + 1) (r .depth) (r .used + n) true → Tried (spell b at) w r w′ r′
-      spell-none {w′} {r′} f c z ef ec p q = spell-yes w f c (no-letters (dataOf (joinedAt b at)) (slots w) (728 + r .used) (omega arith)) ef ec p q
+          (λ i s t. sets-out vs m k i (inl t)) (λ i s t. sets-out vs m k i (inr (omega arith))) made w′ (rw p₁ at (v .put)) (spell b at) spell-is (v .registers)

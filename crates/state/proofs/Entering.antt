@@ -79,6 +79,12 @@ module _ {w : List ℕ} {r : Registers} (f : State → Option State) (s origin a
         aside-same w′ w (rw pm (same-then m′ m₁ m 1764 1814 (same-set m₁ (1752 + d) v 1764 1814 (inl (omega arith))) (same-copied m s (frameAt d) 50 1764 1814 (inl (omega arith))))) in
         rw q (tried-yes (omega arith) kp refl refl (meant ∙ (rw (← e) (fits-abs w′ r₁ (g .stack-fits) (omega arith) (g .cells-fit)))))
 
+-- ---- where the running body goes on
+
+pub running-at : (w : List ℕ) (d : ℕ) (c : Slot) → 0 < d → c ≡ getD (slots w) (1752 + (d - 1)) nil → (c .a ≡ running (contextsOf (slots w) d) .origin) × (c .b ≡ running (contextsOf (slots w) d) .at)
+unfolding running contextIn
+running-at w d c h e = (rw (contexts-at (slots w) d c h e), rw (contexts-at (slots w) d c h e))
+
 -- ---- with a copy of the running frame
 
 module _ {w : List ℕ} {r : Registers} (at end : ℕ) (owes : Bool) (g : Busy w r) where

@@ -1,7 +1,7 @@
 -- What operations of the table mean where the definitions of the machine say it within a larger one. Assumes nothing.
 use Prim.Native.Nat.{ℕ, zero, suc, _+_}
 use mathlib.Core.Path.{_≡_}
-use mathlib.Core.Bool.{Bool, false}
+use mathlib.Core.Bool.{Bool, true, false}
 use mathlib.Core.List.{List, [], _∷_, map}
 use mathlib.Core.Option.{Option}
 use lib.ListN.{length, getD, set, take, drop}
@@ -41,6 +41,11 @@ element k s = push (getD (s .cells) k state.zero) s
 -- bytes as numbers, one slot each
 unfoldable pub letterSlots : List ℕ → List Slot
 letterSlots d = map (λ (b : ℕ). mk 1 b 1 0 0) d
+
+-- n cells more are charged, and the entry a, now the topmost, is the vector of them
+pub record VectorPut (a lower n : ℕ) (w : List ℕ) (r : Registers) (w′ : List ℕ) (r′ : Registers) : Type 0 where
+  pub put : slots w′ ≡ set (slots w) a (mk 3 (r .used) lower n 0)
+  pub registers : r′ ≡ record { height = a + 1; depth = r .depth; used = r .used + n; steps = r .steps; errors = r .errors; skipping = r .skipping; ok = true }
 
 -- the string token at a place of the bytes b becomes a vector with lower bound 0
 unfoldable pub spell : List ℕ → ℕ → State → Option State

@@ -4,8 +4,10 @@ ghost use Prim.Native.Nat.{_+_, _<_, _≤_};
 ghost use lib.Dec.{eqb};
 ghost use lib.ListN.{length};
 ghost use Rattle.table.specs.Slots.{slots};
-ghost use Rattle.state.specs.Layout.{Good, Busy, Tried, Begun};
+ghost use Rattle.machine.specs.State.{running};
+ghost use Rattle.state.specs.Layout.{contextsOf, Good, Busy, Tried, Begun};
 ghost use Rattle.state.specs.Operations.{inline, call, contextPut, Opened};
+use crate::Place;
 use crate::Registers;
 use table::Slot;
 
@@ -30,6 +32,18 @@ pub fn begin(w: &mut [u8], r: Registers, next: u32) -> Registers
     let mut q = r;
     q.steps = r.steps + 1;
     q
+}
+
+// Where the running body goes on.
+pub fn running(w: &[u8], depth: usize) -> Place
+    requires { ⌜ (0 < depth) × (depth ≤ 12) × (48000 ≤ length (now w)) ⌝ }
+    ensures { λ r. ⌜ (r .origin ≡ running (contextsOf (slots (now (w .entry))) depth) .origin) × (r .start ≡ running (contextsOf (slots (now (w .entry))) depth) .at) ⌝ }
+{
+    let c = table::slots::get(w, 1752 + (depth - 1));
+    Place {
+        origin: c.a,
+        start: c.b,
+    }
 }
 
 // The context d, with a frame copied from the slot s on.

@@ -1,11 +1,11 @@
 // Cells: vectors made and read, the frame that an operator keeps.
 ghost use mathlib.Core.Path.{_≡_};
-ghost use Prim.Native.Nat.{_<_, _≤_};
+ghost use Prim.Native.Nat.{_+_, _<_, _≤_};
 ghost use lib.ListN.{length, take, drop};
 ghost use Rattle.table.specs.Slots.{slots};
 ghost use Rattle.machine.specs.Engine.{build, compose, isCardinal, allCardinals};
 ghost use Rattle.state.specs.Layout.{valueIn, valuesAt, Busy, Tried};
-ghost use Rattle.state.specs.Operations.{element};
+ghost use Rattle.state.specs.Operations.{element, VectorPut};
 use crate::Registers;
 use table::Slot;
 
@@ -20,6 +20,31 @@ pub fn element(w: &mut [u8], r: Registers, k: usize) -> Registers
     let v = table::slots::get(w, 728 + k);
     let u = crate::values::plain(v);
     crate::stack::push_slot(w, r, u)
+}
+
+// The n cells after those in use are charged, and the entry a, which becomes the topmost, is the vector of them.
+pub fn put_vector(w: &mut [u8], r: Registers, a: usize, lower: u32, n: usize) -> Registers
+    requires { ⌜ (a < 128) × (r .used + n ≤ 1024) × (48000 ≤ length (now w)) ⌝ }
+    ensures { λ q. ⌜ VectorPut a lower n (now (w .entry)) r (now (w .exit)) q ⌝ }
+{
+    let first = table::words::word(r.used);
+    let count = table::words::word(n);
+    table::slots::put(
+        w,
+        a,
+        Slot {
+            kind: 3,
+            a: first,
+            b: lower,
+            c: count,
+            d: 0,
+        },
+    );
+    let mut q = r;
+    q.height = a + 1;
+    q.used = r.used + n;
+    q.ok = true;
+    q
 }
 
 // MAKEVEC and MAKEVECLU: the topmost n values become cells, and a vector of them takes their place.
@@ -42,24 +67,7 @@ pub fn build(w: &mut [u8], r: Registers, lower: u32, n: usize) -> Registers
         }
         let a = height - n;
         table::slots::copy(w, a, 728 + used, n);
-        let first = table::words::word(used);
-        let count = table::words::word(n);
-        table::slots::put(
-            w,
-            a,
-            Slot {
-                kind: 3,
-                a: first,
-                b: lower,
-                c: count,
-                d: 0,
-            },
-        );
-        let mut q = r;
-        q.height = a + 1;
-        q.used = used + n;
-        q.ok = true;
-        return q;
+        return put_vector(w, r, a, lower, n);
     }
     crate::stack::failed(r)
 }

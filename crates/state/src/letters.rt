@@ -95,22 +95,5 @@ pub fn spell(w: &mut [u8], r: Registers, b: &[u8], at: usize) -> Registers
         return crate::stack::failed(r);
     }
     put_letters(w, 728 + used, b, at, n);
-    let first = table::words::word(used);
-    let count = table::words::word(n);
-    table::slots::put(
-        w,
-        height,
-        Slot {
-            kind: 3,
-            a: first,
-            b: 0,
-            c: count,
-            d: 0,
-        },
-    );
-    let mut q = r;
-    q.height = height + 1;
-    q.used = used + n;
-    q.ok = true;
-    q
+    crate::cells::put_vector(w, r, height, 0, n)
 }

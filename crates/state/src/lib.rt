@@ -1,5 +1,5 @@
 // The state of the machine in the lent table, and the operations that the engine is made of. Above this crate nothing knows where in
-// the table a thing stands; nothing but `values` knows how a value lies in a slot.
+// the table a thing stands. How a value lies in a slot is said by `Layout`; slots are made by the operations that push them.
 pub mod bodies; // a step begun, bodies entered, a body of the engine's opened
 pub mod cells; // vectors made and read, the frame that an operator keeps
 pub mod frames; // the running frame
@@ -7,7 +7,7 @@ pub mod letters; // a string becomes a vector
 pub mod marks; // MARK, UNMARK, COUNT
 pub mod recovery; // mark recovery, the end of bodies
 pub mod stack; // the values above the topmost mark
-pub mod values; // a value in a slot
+pub mod values; // a value read from a slot, a number put into one
 
 // What of the state is no part of the table: entries of the stack, contexts in progress (0: the run has ended), cells used, and the
 // counts. `ok` is the answer of an operation that may fail.
@@ -19,6 +19,12 @@ pub struct Registers {
     pub errors: usize,
     pub skipping: bool,
     pub ok: bool,
+}
+
+// A place in the bytes of an origin.
+pub struct Place {
+    pub origin: u32,
+    pub start: u32,
 }
 
 // Where recovery ends: so many entries, so many contexts.

@@ -1,4 +1,4 @@
-// A value in a slot, and back: the only place that knows.
+// A value read from a slot; a number put into one.
 ghost use mathlib.Core.Path.{_≡_};
 ghost use Rattle.table.specs.Slots.{mk};
 ghost use Rattle.machine.specs.declared.Value.the-variants.{Number};

@@ -9,8 +9,6 @@ pub step-spec : {M : Type 1} → statement M
 step-spec =
     tie.close
     (tie.spec
-    (λ c. search needs)
-    (λ c. search needs)
     (λ c κs. search needs)
     (λ c κs. search needs)
     (λ c κs. search needs)
@@ -19,6 +17,6 @@ step-spec =
     (λ c κs. (search needs, search (needs, pass-skips)))
     (λ c κs. (search needs, search needs, search (needs, sized-here)))
     (λ c. search needs)
-    (λ c. step-skip _ _ _ _ _ _ (c .before .before .before .before .before .before .before .before .before .before .before .before .before .before .before .before .pre .1) (c .before .before .before .before .before .before .before .before .before .before .get .ensures) (c .before .before .before .before .before .before .before .before .before .due-of .ensures .0) (c .before .before .before .before .before .before .before .word .ensures) (c .before .before .before .before .before .before .begin .ensures) (c .before .before .before .passes .ensures) (c .before .before .if1 .taken) (c .skipped .ensures))
+    (λ c. step-skip _ _ _ _ _ _ (c .before .before .before .before .before .before .before .before .before .before .running .ensures) (c .before .before .before .before .before .before .before .before .before .due-of .ensures .0) (c .before .before .before .before .before .before .before .word .ensures) (c .before .before .before .before .before .before .begin .ensures) (c .before .before .before .passes .ensures) (c .before .before .if1 .taken) (c .skipped .ensures))
     (λ c. search needs)
-    (λ c. step-do _ _ _ _ _ _ (c .before .before .before .before .before .before .before .before .before .before .before .before .before .before .before .before .before .before .pre .1) (c .before .before .before .before .before .before .before .before .before .before .before .before .get .ensures) (c .before .before .before .before .before .before .before .before .before .before .before .due-of .ensures .0) (c .before .before .before .before .before .before .before .before .before .word .ensures) (c .before .before .before .before .before .before .before .before .begin .ensures) (c .before .before .before .before .before .passes .ensures) (c .before .before .before .before .if1 .left) (c .before .before .perform .ensures)))
+    (λ c. step-do _ _ _ _ _ _ (c .before .before .before .before .before .before .before .before .before .before .before .before .running .ensures) (c .before .before .before .before .before .before .before .before .before .before .before .due-of .ensures .0) (c .before .before .before .before .before .before .before .before .before .word .ensures) (c .before .before .before .before .before .before .before .before .begin .ensures) (c .before .before .before .before .before .passes .ensures) (c .before .before .before .before .if1 .left) (c .before .before .perform .ensures)))
