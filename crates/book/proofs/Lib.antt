@@ -5,3 +5,5 @@ pub mod Ending
 pub mod Rowing
 pub mod Walking
 pub mod Paging
+pub mod Admitting
+pub mod Booking

@@ -12,7 +12,7 @@ use Rattle.machine.specs.Page.{preambleEnd, pageStart, pageEnd, resultOf, pageR
 use Rattle.state.specs.declared.Registers.{Registers}
 use Rattle.state.specs.Layout.{abs}
 use Rattle.state.proofs.Parts.{length-values}
-use Rattle.book.specs.Ran.{Paged, Ready, Rowed}
+use Rattle.book.specs.Ran.{Preambled, Paged, Ready, Rowed}
 
 module _ (pre body : List ℕ) (allowance used n : ℕ) (w w′ rows rows′ : List ℕ) (q : Registers) (r : Ready pre allowance used w) (p : Paged pre body used allowance w w′ q) where
   ends : abs w′ q ≡ pageEnd allowance pre body
@@ -38,3 +38,6 @@ part s a e h = let z : a + (e - a) ≡ e = omega arith in take-drop (e - a) a s 
 
 pub page-of-parts : (s : List ℕ) (a e b f used allowance : ℕ) (w w′ : List ℕ) (q : Registers) → a ≤ e → b ≤ f → Paged (take (e - a) (drop a s)) (take (f - b) (drop b s)) used allowance w w′ q → Paged (slice a e s) (slice b f s) used allowance w w′ q
 page-of-parts s a e b f used allowance w w′ q h k p = rw (← (part s a e h), ← (part s b f k)) p
+
+pub preamble-of-part : (s : List ℕ) (a e allowance : ℕ) (w′ : List ℕ) (q : Registers) → a ≤ e → Preambled (take (e - a) (drop a s)) allowance w′ q → Preambled (slice a e s) allowance w′ q
+preamble-of-part s a e allowance w′ q h p = rw (← (part s a e h)) p

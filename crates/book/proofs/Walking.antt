@@ -1,73 +1,20 @@
--- The pages of a master, one after another. In order: the bodies read so far are the first of all; a page's span is the next; the rows.
--- Assumes nothing.
-use Prim.Native.Nat.{ℕ, zero, suc, _+_, _-_, _*_}
+-- The pages of a master, one after another. In order: the rows, one more at the end; the loop over the pages. Assumes nothing.
+use Prim.Native.Nat.{ℕ, zero, suc, _+_, _-_, _*_, _<_, _≤_}
 use native.Mathlib.Nat.{zero-add, add-zero}
 use native.Mathlib.Omega.{arith}
 use mathlib.Core.Path.{_≡_, refl, sym, ap, _∙_}
-use mathlib.Core.List.{List, [], _∷_, _++_, append-assoc, append-nil}
-use lib.Dec.{eqb, leb}
+use mathlib.Core.List.{List, [], _++_, append-assoc, append-nil}
 use lib.ListN.{length, getD}
 use lib.Seq.{slice, sets}
-use Rattle.numbers.proofs.Cond.{either}
 use Rattle.table.specs.Words.{wordBytes}
 use Rattle.table.proofs.Stores.{sets-append}
-use Rattle.tokens.specs.declared.Read.{Read}
-use Rattle.tokens.specs.declared.Read.the-variants as read
-use Rattle.tokens.specs.Token.{tokenAt}
-use Rattle.machine.specs.declared.Went.{Went}
-use Rattle.machine.specs.declared.Went.the-variants.{Past, Stop}
-use Rattle.machine.specs.Limits.{mostOpen, mostPages}
-use Rattle.machine.specs.Skeleton.{opening, ending, bodyAt, Span, Skeleton, sound, onward, spanOf, endedAt, pageAt, outerBy, pagesFrom}
-use Rattle.machine.specs.Page.{bodiesOf, resultAt, bytesIn, rowWords, rowBytes, rowsFrom}
-use Rattle.machine.proofs.Comments.{never}
-
--- ---- the bodies read so far are the first of all
-
-abbrev First : List Span → List Span → Type 0
-First spans all = (rest : List Span) × (all ≡ spans ++ rest)
-
-module _ (all : List Span) where
-  abbrev Leads : List Span → Skeleton → Type 0
-  Leads spans x = x ≡ sound all → First spans all
-
-  onward-leads : (spans : List Span) (w : Went) (f : ℕ → Skeleton) → ((next : ℕ) → Leads spans (f next)) → Leads spans (onward w f)
-  unfolding onward
-  onward-leads spans (Past next) f h = h next
-  onward-leads spans (Stop r p) f h = λ e. never (cc)
-
-  pub first-ones : (k : ℕ) (s : List ℕ) (at : ℕ) (spans : List Span) → pagesFrom k s at spans ≡ sound all → First spans all
-  unfolding pagesFrom outerBy pageAt endedAt
-  first-ones zero s at spans = λ e. never (cc)
-  first-ones (suc k) s at spans = by-token (tokenAt s at) (λ x ps. first-ones k s x ps)
-    where
-      by-token : (t : Read) → ((x : ℕ) (ps : List Span) → pagesFrom k s x ps ≡ sound all → First ps all) → Leads spans (outerBy s spans at t (pagesFrom k s))
-      by-token (read.Number value next) ih = λ e. never (cc)
-      by-token (read.Identifier len next) ih = λ e. never (cc)
-      by-token (read.String count next) ih = λ e. never (cc)
-      by-token (read.Operator n next) ih =
-          either (Leads spans) (eqb n opening) _ _
-          (λ _. either (Leads spans) (leb (length spans) mostPages) _ _
-          (λ _. onward-leads spans (bodyAt mostOpen s at) _ (λ x e. let g = ih x (spans ++ (spanOf at x ∷ [])) e in (spanOf at x ∷ g .0, g .1 ∙ append-assoc spans (spanOf at x ∷ []) (g .0)))) (λ _ e. never (cc)))
-          (λ _. either (Leads spans) (eqb n ending) _ _ (λ _. either (Leads spans) (eqb next (length s)) _ _ (λ _ e. let z : spans ≡ all = cc in ([], sym z ∙ sym (append-nil spans))) (λ _ e. never (cc))) (λ _ e. never (cc)))
-      by-token (read.Comment next) ih = ih next spans
-      by-token (read.Unread r p) ih = λ e. never (cc)
-
--- ---- the next span, and its bytes
-
-getD-map : (s : List ℕ) (spans : List Span) (p : Span) (rest : List Span) → getD (bodiesOf s ((spans ++ (p ∷ [])) ++ rest)) (length spans) [] ≡ slice (p .start) (p .start + p .len) s
-unfolding bodiesOf
-getD-map s [] p rest = refl
-getD-map s (q ∷ spans) p rest = getD-map s spans p rest
-
-pub body-there : (s : List ℕ) (k at next : ℕ) (spans all : List Span) → pagesFrom k s next (spans ++ (spanOf at next ∷ [])) ≡ sound all
-    → getD (bodiesOf s all) (length spans) [] ≡ slice (spanOf at next .start) (spanOf at next .start + spanOf at next .len) s
-body-there s k at next spans all e =
-    let g = first-ones all k s next (spans ++ (spanOf at next ∷ [])) e in
-    rw (g .1) (getD-map s spans (spanOf at next) (g .0))
+use Rattle.machine.specs.Page.{preambleOf, pageResult, resultAt, bytesIn, rowWords, rowBytes, rowsFrom}
+use Rattle.skeleton.specs.Spans.{Placed}
+use Rattle.book.specs.Ran.{Ready, Rowed, Laid}
 
 -- ---- rows, one more at the end
 
-rows-long : (a : ℕ) (bodies : List (List ℕ)) (n k : ℕ) → length (rowsFrom a bodies n k) ≡ 16 * k
+pub rows-long : (a : ℕ) (bodies : List (List ℕ)) (n k : ℕ) → length (rowsFrom a bodies n k) ≡ 16 * k
 unfolding rowsFrom rowBytes rowWords bytesIn wordBytes
 rows-long a bodies n zero = refl
 rows-long a bodies n (suc k) = omega (arith, rows-long a bodies (suc n) k)
@@ -87,3 +34,51 @@ row-more a n bodies t t₁ t₂ e f =
   where
     joined : rowsFrom a bodies 0 n ++ rowBytes (resultAt a bodies n) ≡ rowsFrom a bodies 0 (n + 1)
     joined = let z : n + 1 ≡ suc n = omega arith in rw z (sym (rw (zero-add n) at (rows-more a bodies 0 n)))
+
+-- ---- the loop
+
+-- before page n: the rows before its own are written
+pub record Walked (s t : List ℕ) (last used a : ℕ) (w₀ rows₀ w rows : List ℕ) (n : ℕ) : Type 0 where
+  pub some : 1 ≤ n
+  pub most : n ≤ last + 1
+  pub ready : Ready (slice (getD t 0 0) (getD t 1 0) s) a used w
+  pub w-long : length w ≡ length w₀
+  pub rows-long : length rows ≡ length rows₀
+  pub rows-are : (bodies : List (List ℕ)) (b : List ℕ) → Placed s t bodies → length bodies ≡ last + 1 → rows₀ ≡ sets b 0 (rowsFrom a bodies 0 1) → rows ≡ sets b 0 (rowsFrom a bodies 0 n)
+
+pub walk-starts : (s t : List ℕ) (last used a : ℕ) (w rows : List ℕ) → Ready (slice (getD t 0 0) (getD t 1 0) s) a used w → Walked s t last used a w rows w rows 1
+walk-starts s t last used a w rows r = record { some = omega arith; most = omega arith; ready = r; w-long = refl; rows-long = refl; rows-are = λ bodies b p m e. e }
+
+-- the bytes of a page by its place
+result-at : (s t : List ℕ) (a n : ℕ) (bodies : List (List ℕ)) → 1 ≤ n → n < length bodies → Placed s t bodies
+    → resultAt a bodies n ≡ pageResult a (slice (getD t 0 0) (getD t 1 0) s) (slice (getD t (2 * n) 0) (getD t (2 * n + 1) 0) s)
+unfolding resultAt preambleOf
+result-at s t a zero bodies h l p = absurd (omega arith)
+result-at s t a (suc n) bodies h l p = rw (p .each 0 (omega arith) .is, p .each (suc n) l .is)
+
+module _ (s t : List ℕ) (last used a : ℕ) (w₀ rows₀ w rows : List ℕ) (n : ℕ) (l : Laid s t last) (h : n ≤ last) (k : Walked s t last used a w₀ rows₀ w rows n) where
+  abbrev at : ℕ → ℕ
+  at i = getD t i 0
+
+  -- what a page and its row ask
+  pub row-asks : length s ≤ 16777215 → a ≤ 1000000 → 8208 ≤ length rows₀
+      → Ready (slice (at 0) (at 1) s) a used w × (length s ≤ 16777215) × (at 0 ≤ at 1) × (at 1 ≤ length s) × (at (2 * n) ≤ at (2 * n + 1)) × (at (2 * n + 1) ≤ length s) × (a ≤ 1000000) × (16 * n + 16 ≤ length rows)
+  row-asks f g r =
+      let p = l .placed in
+      let x = p .each 0 (omega (arith, l .many)) in
+      let y = p .each n (omega (arith, l .many)) in
+      (k .ready, f, x .ordered, x .inside, y .ordered, y .inside, g, omega (arith, p .few, l .many, k .rows-long))
+
+  pub walk-goes : (w′ rows′ : List ℕ) → Rowed (slice (at 0) (at 1) s) (slice (at (2 * n)) (at (2 * n + 1)) s) a used n w′ rows rows′ → length w′ ≡ length w → length rows′ ≡ length rows → Walked s t last used a w₀ rows₀ w′ rows′ (n + 1)
+  walk-goes w′ rows′ r e f = record {
+    some = omega arith;
+    most = omega arith;
+    ready = r .ready;
+    w-long = e ∙ k .w-long;
+    rows-long = f ∙ k .rows-long;
+    rows-are = λ bodies b p m g. row-more a n bodies b rows rows′ (k .rows-are bodies b p m g) (r .row ∙ ap (λ x. sets rows (16 * n) (rowBytes x)) (sym (result-at s t a n bodies (k .some) (omega (arith, m)) p)));
+  }
+
+pub walk-ends : (s t : List ℕ) (last used a : ℕ) (w₀ rows₀ w rows : List ℕ) (n : ℕ) → last < n → Walked s t last used a w₀ rows₀ w rows n
+    → (bodies : List (List ℕ)) (b : List ℕ) → Placed s t bodies → length bodies ≡ last + 1 → rows₀ ≡ sets b 0 (rowsFrom a bodies 0 1) → rows ≡ sets b 0 (rowsFrom a bodies 0 (last + 1))
+walk-ends s t last used a w₀ rows₀ w rows n h k = let z : n ≡ last + 1 = omega (arith, k .most) in rw z at (k .rows-are)

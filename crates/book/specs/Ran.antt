@@ -1,12 +1,21 @@
--- What the preamble and a page leave in the table, for contracts of inner functions. Assumes nothing.
-use Prim.Native.Nat.{ℕ, _*_, _≤_}
+-- What the preamble and a page leave in the table, and a whole master: for contracts of inner functions alone. Assumes nothing.
+use Prim.Native.Nat.{ℕ, _+_, _*_, _≤_}
 use mathlib.Core.Path.{_≡_}
+use mathlib.Core.Bool.{Bool, true, _&&_}
 use mathlib.Core.List.{List}
-use lib.ListN.{length}
+use lib.IntN.{ℤ, pos}
+use lib.Signed.{leZ}
+use lib.ListN.{length, replicate}
 use lib.Seq.{sets}
 use Rattle.table.specs.Slots.{slots}
 use Rattle.machine.specs.Step.{run, begin}
-use Rattle.machine.specs.Limits.{scratchSize, mostCells}
+use Rattle.tokens.specs.Format.{longest}
+use Rattle.tokens.specs.declared.Refusal.{Refusal}
+use Rattle.tokens.specs.declared.Outcome.{Outcome}
+use Rattle.tokens.specs.declared.Outcome.the-variants.{Done, Refused}
+use Rattle.machine.specs.Limits.{mostPages, mostSteps, scratchSize, mostCells}
+use Rattle.machine.specs.Promise.{Verdict, halted, admitted, finished, runAnswer, rowsLeaves}
+use Rattle.skeleton.specs.Spans.{Placed}
 use Rattle.machine.specs.Page.{preambleEnd, pageResult, rowBytes}
 use Rattle.literals.specs.Names.{both}
 use Rattle.state.specs.declared.Registers.{Registers}
@@ -39,3 +48,33 @@ pub record Ready (pre : List ℕ) (allowance used : ℕ) (w : List ℕ) : Type 0
 pub record Rowed (pre body : List ℕ) (allowance used n : ℕ) (w′ rows rows′ : List ℕ) : Type 0 where
   pub ready : Ready pre allowance used w′
   pub row : rows′ ≡ sets rows (16 * n) (rowBytes (pageResult allowance pre body))
+
+-- ---- a whole master
+
+-- a table of places, and pages 1 to `last`
+pub record Laid (s t : List ℕ) (last : ℕ) : Type 0 where
+  pub wide : 2 * mostPages + 2 ≤ length t
+  pub bodies : List (List ℕ)
+  pub placed : Placed s t bodies
+  pub many : length bodies ≡ last + 1
+
+-- a master that may run, with its last page's number: its bodies stand where t says, and the verdict is by them
+pub record Goes (s : List ℕ) (allowance : ℤ) (enough : Bool) (t : List ℕ) (last : ℕ) : Type 0 where
+  pub short : length s ≤ longest
+  pub tables : enough ≡ true
+  pub steps : leZ (pos 1) allowance && leZ allowance (pos mostSteps) ≡ true
+  pub bodies : List (List ℕ)
+  pub placed : Placed s t bodies
+  pub many : length bodies ≡ last + 1
+  pub verdict : (rest : List (List ℕ) → Verdict) → admitted s allowance enough rest ≡ rest bodies
+
+-- what is judged before anything runs
+pub record Admitted (s : List ℕ) (allowance : ℤ) (enough : Bool) (t : List ℕ) (r : Outcome) : Type 0 where
+  pub halts : (w : Refusal) (place : ℕ) → r ≡ Refused w place → (rest : List (List ℕ) → Verdict) → admitted s allowance enough rest ≡ halted w place
+  pub goes : (n : ℕ) → r ≡ Done n → Goes s allowance enough t n
+
+-- every body run: the answer, the table and the rows
+pub record RanAll (allowance : ℕ) (bodies : List (List ℕ)) (w′ rows rows′ : List ℕ) (r : Outcome) : Type 0 where
+  pub answer : r ≡ runAnswer (finished (pos allowance) bodies)
+  pub clear : w′ ≡ replicate scratchSize 0
+  pub rows-are : rows′ ≡ rowsLeaves (pos allowance) (finished (pos allowance) bodies) rows

@@ -1,9 +1,21 @@
-// The pages of a master run one after another, each row written.
+// Bodies of a master run, by the places where they stand. In order: the preamble; a page and its row; every page.
 ghost use mathlib.Core.Path.{_≡_};
-ghost use Prim.Native.Nat.{_+_, _*_, _≤_};
-ghost use lib.ListN.{length};
-ghost use lib.Seq.{slice};
-ghost use Rattle.book.specs.Ran.{Ready, Rowed};
+ghost use mathlib.Core.List.{List};
+ghost use Prim.Native.Nat.{ℕ, _+_, _*_, _<_, _≤_};
+ghost use lib.ListN.{length, getD};
+ghost use lib.Seq.{slice, sets};
+ghost use Rattle.machine.specs.Page.{rowsFrom};
+ghost use Rattle.skeleton.specs.Spans.{Placed};
+ghost use Rattle.book.specs.Ran.{Preambled, Ready, Rowed, Laid};
+use state::Registers;
+
+// The preamble of the master s, whose bytes are a to e.
+pub fn preamble_of(w: &mut [u8], s: &[u8], a: usize, e: usize, allowance: usize) -> Registers
+    requires { ⌜ (48000 ≤ length (now w)) × (length (now s) ≤ 16777215) × (a ≤ e) × (e ≤ length (now s)) × (allowance ≤ 1000000) ⌝ }
+    ensures { λ q. ⌜ Preambled (slice a e (now (s .entry))) allowance (now (w .exit)) q ⌝ }
+{
+    crate::pages::preamble(w, &s[a..e], &s[0..0], allowance)
+}
 
 // Page n of the master s, whose body's bytes are b to f; the preamble's are a to e.
 fn page_row(
@@ -23,4 +35,37 @@ fn page_row(
 {
     let q = crate::pages::page(w, &s[a..e], &s[b..f], used, allowance);
     crate::rows::put_row(rows, n, q, used);
+}
+
+// Pages 1 to `last`, one after another, and their rows; the rows before are written.
+pub fn every_page(
+    w: &mut [u8],
+    s: &[u8],
+    places: &[usize],
+    last: usize,
+    used: usize,
+    allowance: usize,
+    rows: &mut [u8],
+)
+    requires { ⌜ Laid (now s) (now places) last × Ready (slice (getD (now places) 0 0) (getD (now places) 1 0) (now s)) allowance used (now w) × (length (now s) ≤ 16777215) × (allowance ≤ 1000000) × (8208 ≤ length (now rows)) ⌝ }
+    ensures { λ _. ⌜ ((bodies : List (List ℕ)) (t : List ℕ) → Placed (now (s .entry)) (now (places .entry)) bodies → length bodies ≡ last + 1 → now (rows .entry) ≡ sets t 0 (rowsFrom allowance bodies 0 1) → now (rows .exit) ≡ sets t 0 (rowsFrom allowance bodies 0 (last + 1))) ⌝ }
+{
+    let a = places[0];
+    let e = places[1];
+    let mut n: usize = 1;
+    while n <= last {
+        page_row(
+            w,
+            s,
+            a,
+            e,
+            places[2 * n],
+            places[2 * n + 1],
+            used,
+            allowance,
+            rows,
+            n,
+        );
+        n += 1;
+    }
 }

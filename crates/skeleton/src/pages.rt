@@ -1,11 +1,14 @@
 // The master around its bodies, and `load`. In order: a token where a page or END is due; all of them; the skeleton; load.
 ghost use mathlib.Core.Path.{_≡_};
 ghost use mathlib.Core.List.{[], _∷_};
+ghost use Prim.Native.Nat.{_+_, _*_, _≤_};
 ghost use lib.ListN.{length};
 ghost use Rattle.tokens.specs.declared.Refusal.the-variants.{NotAllowed};
 ghost use Rattle.machine.specs.Skeleton.{Span, pagesFrom, preambleAt, skeletonOf};
-ghost use Rattle.machine.specs.Promise.{pagesIn, Loads};
+ghost use Rattle.machine.specs.Page.{bodiesOf};
+ghost use Rattle.machine.specs.Promise.{Loads};
 ghost use Rattle.skeleton.specs.declared.Turn.the-variants.{Halt};
+ghost use Rattle.skeleton.specs.Spans.{Placed, Surveyed, noted};
 ghost use Rattle.skeleton.specs.Turns.{pageTurn, endTurn, turnAt};
 use crate::Turn;
 use crate::bodies;
@@ -80,9 +83,22 @@ pub fn turn(s: &[u8], had: usize, at: usize) -> Turn
     }
 }
 
-// Pages from `at` on, past the preamble, to the end: how many.
-fn pages(s: &[u8], at: usize) -> Outcome
-    ensures { λ r. ⌜ ((p : Span) → r ≡ pagesIn (pagesFrom (length (now (s .entry))) (now (s .entry)) at (p ∷ []))) ⌝ }
+// Two places for each body.
+pub const PLACES: usize = 2 * (MOST_PAGES + 1);
+
+// Where body n stands: its `{` is at `at`, its `}` ends at `next`.
+fn note(places: &mut [usize], n: usize, at: usize, next: usize)
+    requires { ⌜ (2 * n + 2 ≤ length (now places)) × (at + 4 ≤ next) ⌝ }
+    ensures { λ _. ⌜ now (places .exit) ≡ noted (now (places .entry)) n at next ⌝ }
+{
+    places[2 * n] = at + 2;
+    places[2 * n + 1] = next - 2;
+}
+
+// Pages from `at` on, past the preamble, to the end: how many, and where each stands.
+fn pages(s: &[u8], at: usize, places: &mut [usize]) -> Outcome
+    requires { ⌜ 1026 ≤ length (now places) ⌝ }
+    ensures { λ r. ⌜ ((p : Span) → Placed (now (s .entry)) (now (places .entry)) (bodiesOf (now (s .entry)) (p ∷ [])) → Surveyed (now (s .entry)) (now (places .exit)) (pagesFrom (length (now (s .entry))) (now (s .entry)) at (p ∷ [])) r) ⌝ }
 {
     let mut p = at;
     let mut had: usize = 1;
@@ -92,6 +108,7 @@ fn pages(s: &[u8], at: usize) -> Outcome
                 p = next;
             }
             Turn::Page { next } => {
+                note(places, had, p, next);
                 p = next;
                 had += 1;
             }
@@ -106,23 +123,29 @@ fn pages(s: &[u8], at: usize) -> Outcome
 }
 
 // The preamble, whose `{` is due from `at` on, and the pages.
-fn preamble_on(s: &[u8], at: usize) -> Outcome
-    ensures { λ r. ⌜ r ≡ pagesIn (preambleAt (now (s .entry)) at) ⌝ }
+fn preamble_on(s: &[u8], at: usize, places: &mut [usize]) -> Outcome
+    requires { ⌜ 1026 ≤ length (now places) ⌝ }
+    ensures { λ r. ⌜ Surveyed (now (s .entry)) (now (places .exit)) (preambleAt (now (s .entry)) at) r ⌝ }
 {
     match bodies::body(s, at, MOST_OPEN) {
-        Went::Past { next } => pages(s, next),
+        Went::Past { next } => {
+            note(places, 0, bodies::past_comments(s, at), next);
+            pages(s, next, places)
+        }
         Went::Stop { refusal, place } => refused(refusal, place),
     }
 }
 
-fn check(s: &[u8]) -> Outcome
-    ensures { λ r. ⌜ r ≡ pagesIn (skeletonOf (now (s .entry))) ⌝ }
+// Checks a master, answers its page count and leaves where each body stands.
+pub fn survey(s: &[u8], places: &mut [usize]) -> Outcome
+    requires { ⌜ 1026 ≤ length (now places) ⌝ }
+    ensures { λ r. ⌜ Surveyed (now (s .entry)) (now (places .exit)) (skeletonOf (now (s .entry))) r ⌝ }
 {
     if !tokens::header::begins(s) {
         return refused(tokens::Refusal::BadHeader, 0);
     }
     match bodies::due_from(roles::BEGIN, s, 21) {
-        Went::Past { next } => preamble_on(s, next),
+        Went::Past { next } => preamble_on(s, next, places),
         Went::Stop { refusal, place } => refused(refusal, place),
     }
 }
@@ -134,5 +157,6 @@ pub fn load(s: &[u8]) -> Outcome
     if tokens::header::LONGEST < s.len() {
         return refused(tokens::Refusal::TooLong, 0);
     }
-    check(s)
+    let mut places = [0usize; PLACES];
+    survey(s, &mut places)
 }
