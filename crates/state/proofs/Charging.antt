@@ -70,7 +70,7 @@ map-snoc : {A B : Type 0} (f : A → B) (k : List A) (a : A) → map f (k ++ (a 
 map-snoc f [] a = refl
 map-snoc f (b ∷ k) a = ap (λ x. f b ∷ x) (map-snoc f k a)
 
-map-reverse : {A B : Type 0} (f : A → B) (l : List A) → reverse (map f l) ≡ map f (reverse l)
+pub map-reverse : {A B : Type 0} (f : A → B) (l : List A) → reverse (map f l) ≡ map f (reverse l)
 map-reverse f [] = refl
 map-reverse f (a ∷ l) = reverse-cons (f a) (map f l) ∙ ap (λ x. x ++ (f a ∷ [])) (map-reverse f l) ∙ sym (ap (map f) (reverse-cons a l) ∙ map-snoc f (reverse l) a)
 

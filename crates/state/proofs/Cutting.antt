@@ -119,13 +119,16 @@ pub values-cut : (m : List Slot) (b a n : ℕ) → valuesAt m b (a + n) ≡ valu
 unfolding valuesAt
 values-cut m b a n = ap (map valueIn) (asc-cut m b a n) ∙ map-append valueIn (asc m b a) (asc m (b + a) n)
 
--- n values from the value f of a part on
+-- the values of a part from the value f on, and n of them
+pub values-rest : (m : List Slot) (b f u : ℕ) → f ≤ u → drop f (valuesAt m b u) ≡ valuesAt m (b + f) (u - f)
+values-rest m b f u h =
+    let e : u ≡ f + (u - f) = omega arith in
+    ap (λ k. drop f (valuesAt m b k)) e ∙ ap (drop f) (values-cut m b f (u - f)) ∙ drop-at (valuesAt m b f) _ f (length-values m b f)
+
 pub values-part : (m : List Slot) (b f n u : ℕ) → f + n ≤ u → take n (drop f (valuesAt m b u)) ≡ valuesAt m (b + f) n
 values-part m b f n u h =
-    let e : u ≡ f + (n + (u - (f + n))) = omega arith in
-    let q : drop f (valuesAt m b u) ≡ valuesAt m (b + f) (n + (u - (f + n))) =
-    ap (λ k. drop f (valuesAt m b k)) e ∙ ap (drop f) (values-cut m b f (n + (u - (f + n)))) ∙ drop-at (valuesAt m b f) _ f (length-values m b f) in
-    ap (take n) (q ∙ values-cut m (b + f) n (u - (f + n))) ∙ take-at (valuesAt m (b + f) n) _ n (length-values m (b + f) n)
+    let e : u - f ≡ n + (u - f - n) = omega arith in
+    ap (take n) (values-rest m b f u (omega arith) ∙ ap (valuesAt m (b + f)) e ∙ values-cut m (b + f) n (u - f - n)) ∙ take-at (valuesAt m (b + f) n) _ n (length-values m (b + f) n)
 
 pub values-store : (m : List Slot) (b n i : ℕ) (v : Slot) → i < n → b + i < length m → valuesAt (set m (b + i) v) b n ≡ set (valuesAt m b n) i (valueIn v)
 unfolding valuesAt

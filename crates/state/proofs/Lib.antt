@@ -11,3 +11,4 @@ pub mod Framing
 pub mod Charging
 pub mod Cardinals
 pub mod Entering
+pub mod Showing

@@ -6,17 +6,17 @@ use mathlib.Core.List.{List, [], _∷_, map}
 use mathlib.Core.Option.{Option}
 use lib.ListN.{length, getD, set, take, drop}
 use Rattle.table.specs.declared.Slot.{Slot}
-use Rattle.table.specs.Slots.{mk, slots, copied}
+use Rattle.table.specs.Slots.{mk, slots, asc, copied}
 use Rattle.machine.specs.declared.Value.{Value}
 use Rattle.machine.specs.declared.Value.the-variants.{Identifier, Vector}
 use Rattle.machine.specs.Limits.{frameSize}
-use Rattle.machine.specs.State.{val, Context, State, running}
+use Rattle.machine.specs.State.{Entry, val, Context, State, running}
 use Rattle.machine.specs.State as state
 use Rattle.machine.specs.Literal.{lettersAt}
 use Rattle.machine.specs.Contexts.{settle}
 use Rattle.machine.specs.Engine.{withStack, push, charge, enter}
 use Rattle.state.specs.declared.Registers.{Registers}
-use Rattle.state.specs.Layout.{valuesAt, frameAt, aside, abs, Good}
+use Rattle.state.specs.Layout.{valueIn, entryIn, valuesAt, frameAt, aside, abs, Good}
 
 -- two values, the second on top
 unfoldable pub pushTwo : Value → Value → State → Option State
@@ -89,3 +89,12 @@ pub record Opened (origin at end used : ℕ) (w w′ : List ℕ) (r : Registers)
   pub is : abs w′ r ≡ opening origin at end (valuesAt (slots w) 128 frameSize) (valuesAt (slots w) 728 used)
   pub keeps : aside w′ ≡ aside w
   pub counted : r .steps ≡ 0
+
+-- a slot where marks may stand, and where every slot is a value
+unfoldable pub entryOr : Bool → Slot → Entry
+entryOr true v = entryIn v
+entryOr false v = val (valueIn v)
+
+-- the n slots from b on, as a section lists them
+unfoldable pub shownFrom : Bool → List Slot → ℕ → ℕ → List Entry
+shownFrom marks m b n = map (entryOr marks) (asc m b n)

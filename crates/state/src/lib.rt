@@ -6,6 +6,7 @@ pub mod frames; // the running frame
 pub mod letters; // a string becomes a vector
 pub mod marks; // MARK, UNMARK, COUNT
 pub mod recovery; // mark recovery, the end of bodies
+pub mod sections; // a result's sections
 pub mod stack; // the values above the topmost mark
 pub mod values; // a value read from a slot, a number put into one
 
