@@ -36,7 +36,7 @@ unfolding zeroed
 clear-all w e = rw (ap (λ (n : ℕ). drop n w) (sym e) ∙ drop-length w) (append-nil (replicate scratchSize 0))
 
 module _ (s t : List ℕ) (bodies : List (List ℕ)) (a : ℕ) (w : List ℕ) (q : Registers) (l : Placed s t bodies) (p : Preambled (slice (getD t 0 0) (getD t 1 0) s) a w q) where
-  ends : abs w q ≡ preambleEnd a (preambleOf bodies)
+  pub ends : abs w q ≡ preambleEnd a (preambleOf bodies)
   unfolding preambleOf
   ends = p .does ∙ ap (preambleEnd a) (l .each 0 (l .some) .is)
 
@@ -77,7 +77,7 @@ ready-of pre a w q p = record { room = p .good .room; frame-kept = p .kept; cell
 -- ---- the promise of `run`
 
 -- scratch is clear, whatever the verdict of an admitted master
-scratch-clear : (a : ℕ) (bodies : List (List ℕ)) (scratch w′ : List ℕ) → w′ ≡ replicate scratchSize 0 → w′ ++ drop scratchSize scratch ≡ scratchLeaves (finished (pos a) bodies) scratch
+pub scratch-clear : (a : ℕ) (bodies : List (List ℕ)) (scratch w′ : List ℕ) → w′ ≡ replicate scratchSize 0 → w′ ++ drop scratchSize scratch ≡ scratchLeaves (finished (pos a) bodies) scratch
 unfolding finished scratchLeaves cleared over
 scratch-clear a bodies scratch w′ e =
     either (λ v. w′ ++ drop scratchSize scratch ≡ scratchLeaves v scratch) (eqb (outcome (preambleEnd a (preambleOf bodies))) 3) unfinished (accepted bodies) (λ _. clear) (λ _. clear)

@@ -7,3 +7,4 @@ pub mod Walking
 pub mod Paging
 pub mod Admitting
 pub mod Booking
+pub mod Reprinting

@@ -14,7 +14,7 @@ use Rattle.state.specs.Layout.{abs}
 use Rattle.state.proofs.Parts.{length-values}
 use Rattle.book.specs.Ran.{Preambled, Paged, Ready, Rowed}
 
-module _ (pre body : List ℕ) (allowance used n : ℕ) (w w′ rows rows′ : List ℕ) (q : Registers) (r : Ready pre allowance used w) (p : Paged pre body used allowance w w′ q) where
+module _ (pre body : List ℕ) (allowance used : ℕ) (w w′ : List ℕ) (q : Registers) (r : Ready pre allowance used w) (p : Paged pre body used allowance w w′ q) where
   ends : abs w′ q ≡ pageEnd allowance pre body
   unfolding pageEnd pageStart
   ends = p .does ∙ (rw (r .frame-kept, r .cells-kept) refl)
@@ -22,12 +22,12 @@ module _ (pre body : List ℕ) (allowance used n : ℕ) (w w′ rows rows′ : L
   as-many : length (preambleEnd allowance pre .cells) ≡ used
   as-many = ap length (sym (r .cells-kept)) ∙ length-values (slots w) 728 used
 
-  result-is : resultOf used (abs w′ q) ≡ pageResult allowance pre body
+  pub result-is : resultOf used (abs w′ q) ≡ pageResult allowance pre body
   unfolding pageResult
   result-is = rw (ends, as-many) refl
 
-  pub page-rowed : ((v : List ℕ) → rows′ ≡ sets rows (16 * n) (rowBytes (resultOf used (abs v q)))) → Rowed pre body allowance used n w′ rows rows′
-  page-rowed f = record {
+  pub page-rowed : (n : ℕ) (rows rows′ : List ℕ) → ((v : List ℕ) → rows′ ≡ sets rows (16 * n) (rowBytes (resultOf used (abs v q)))) → Rowed pre body allowance used n w′ rows rows′
+  page-rowed n rows rows′ f = record {
     ready = record { room = p .good .room; frame-kept = p .keeps ∙ r .frame-kept; cells-kept = p .cells ∙ r .cells-kept; few = r .few };
     row = f w′ ∙ ap (λ x. sets rows (16 * n) (rowBytes x)) result-is;
   }

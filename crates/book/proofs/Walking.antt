@@ -4,20 +4,24 @@ use native.Mathlib.Nat.{zero-add, add-zero}
 use native.Mathlib.Omega.{arith}
 use mathlib.Core.Path.{_≡_, refl, sym, ap, _∙_}
 use mathlib.Core.List.{List, [], _++_, append-assoc, append-nil}
-use lib.ListN.{length, getD}
+use lib.ListN.{length, getD, length-append}
 use lib.Seq.{slice, sets}
 use Rattle.table.specs.Words.{wordBytes}
 use Rattle.table.proofs.Stores.{sets-append}
-use Rattle.machine.specs.Page.{preambleOf, pageResult, resultAt, bytesIn, rowWords, rowBytes, rowsFrom}
+use Rattle.machine.specs.Page.{Result, preambleOf, pageResult, resultAt, bytesIn, rowWords, rowBytes, rowsFrom}
 use Rattle.skeleton.specs.Spans.{Placed}
 use Rattle.book.specs.Ran.{Ready, Rowed, Laid}
 
 -- ---- rows, one more at the end
 
+pub row-long : (r : Result) → length (rowBytes r) ≡ 16
+unfolding rowBytes rowWords bytesIn wordBytes
+row-long r = refl
+
 pub rows-long : (a : ℕ) (bodies : List (List ℕ)) (n k : ℕ) → length (rowsFrom a bodies n k) ≡ 16 * k
-unfolding rowsFrom rowBytes rowWords bytesIn wordBytes
+unfolding rowsFrom
 rows-long a bodies n zero = refl
-rows-long a bodies n (suc k) = omega (arith, rows-long a bodies (suc n) k)
+rows-long a bodies n (suc k) = length-append (rowBytes (resultAt a bodies n)) (rowsFrom a bodies (suc n) k) ∙ omega (arith, row-long (resultAt a bodies n), rows-long a bodies (suc n) k)
 
 rows-more : (a : ℕ) (bodies : List (List ℕ)) (n k : ℕ) → rowsFrom a bodies n (suc k) ≡ rowsFrom a bodies n k ++ rowBytes (resultAt a bodies (n + k))
 unfolding rowsFrom
@@ -50,7 +54,7 @@ pub walk-starts : (s t : List ℕ) (last used a : ℕ) (w rows : List ℕ) → R
 walk-starts s t last used a w rows r = record { some = omega arith; most = omega arith; ready = r; w-long = refl; rows-long = refl; rows-are = λ bodies b p m e. e }
 
 -- the bytes of a page by its place
-result-at : (s t : List ℕ) (a n : ℕ) (bodies : List (List ℕ)) → 1 ≤ n → n < length bodies → Placed s t bodies
+pub result-at : (s t : List ℕ) (a n : ℕ) (bodies : List (List ℕ)) → 1 ≤ n → n < length bodies → Placed s t bodies
     → resultAt a bodies n ≡ pageResult a (slice (getD t 0 0) (getD t 1 0) s) (slice (getD t (2 * n) 0) (getD t (2 * n + 1) 0) s)
 unfolding resultAt preambleOf
 result-at s t a zero bodies h l p = absurd (omega arith)

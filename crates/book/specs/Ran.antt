@@ -1,5 +1,5 @@
 -- What the preamble and a page leave in the table, and a whole master: for contracts of inner functions alone. Assumes nothing.
-use Prim.Native.Nat.{ℕ, _+_, _*_, _≤_}
+use Prim.Native.Nat.{ℕ, _+_, _*_, _<_, _≤_}
 use mathlib.Core.Path.{_≡_}
 use mathlib.Core.Bool.{Bool, true, _&&_}
 use mathlib.Core.List.{List}
@@ -14,9 +14,9 @@ use Rattle.tokens.specs.declared.Refusal.{Refusal}
 use Rattle.tokens.specs.declared.Outcome.{Outcome}
 use Rattle.tokens.specs.declared.Outcome.the-variants.{Done, Refused}
 use Rattle.machine.specs.Limits.{mostPages, mostSteps, scratchSize, mostCells}
-use Rattle.machine.specs.Promise.{Verdict, halted, admitted, finished, runAnswer, rowsLeaves}
+use Rattle.machine.specs.Promise.{Verdict, halted, admitted, finished, over, runAnswer, rowsLeaves, reprintAnswer, rowLeaves, sectionsLeaves}
 use Rattle.skeleton.specs.Spans.{Placed}
-use Rattle.machine.specs.Page.{preambleEnd, pageResult, rowBytes}
+use Rattle.machine.specs.Page.{Result, preambleEnd, pageResult, rowBytes, sectionBytes}
 use Rattle.literals.specs.Names.{both}
 use Rattle.state.specs.declared.Registers.{Registers}
 use Rattle.state.specs.Layout.{valuesAt, aside, abs, Good}
@@ -78,3 +78,24 @@ pub record RanAll (allowance : ℕ) (bodies : List (List ℕ)) (w′ rows rows�
   pub answer : r ≡ runAnswer (finished (pos allowance) bodies)
   pub clear : w′ ≡ replicate scratchSize 0
   pub rows-are : rows′ ≡ rowsLeaves (pos allowance) (finished (pos allowance) bodies) rows
+
+-- ---- one body of a master
+
+-- a table of places, and a body of that number
+pub record Holds (s t : List ℕ) (page : ℕ) : Type 0 where
+  pub wide : 2 * mostPages + 2 ≤ length t
+  pub bodies : List (List ℕ)
+  pub placed : Placed s t bodies
+  pub there : page < length bodies
+
+-- a result's row and sections
+pub record Shown (x : Result) (page : ℕ) (rows rows′ sections sections′ : List ℕ) : Type 0 where
+  pub row : rows′ ≡ sets rows (16 * page) (rowBytes x)
+  pub sections-are : sections′ ≡ over (sectionBytes x) sections
+
+-- the body reprinted: the answer and the tables
+pub record Reprinted (allowance page : ℕ) (bodies : List (List ℕ)) (w′ rows rows′ sections sections′ : List ℕ) (r : Outcome) : Type 0 where
+  pub answer : r ≡ reprintAnswer (pos page) (finished (pos allowance) bodies)
+  pub clear : w′ ≡ replicate scratchSize 0
+  pub rows-are : rows′ ≡ rowLeaves (pos allowance) (pos page) (finished (pos allowance) bodies) rows
+  pub sections-are : sections′ ≡ sectionsLeaves (pos allowance) (pos page) (finished (pos allowance) bodies) sections

@@ -1,10 +1,14 @@
-// Every body of a master run, or the preamble and one page. The table is clear afterwards.
+// Every body of a master run, or the preamble and one page. The table is clear afterwards. In order so.
 ghost use mathlib.Core.Path.{_≡_};
 ghost use mathlib.Core.List.{List};
-ghost use Prim.Native.Nat.{ℕ, _+_, _≤_};
-ghost use lib.ListN.{length};
+ghost use Prim.Native.Nat.{ℕ, _+_, _*_, _<_, _≤_};
+ghost use lib.ListN.{length, getD};
+ghost use lib.Seq.{slice};
+ghost use Rattle.machine.specs.Page.{resultOf, resultAt};
 ghost use Rattle.skeleton.specs.Spans.{Placed};
-ghost use Rattle.book.specs.Ran.{Laid, RanAll};
+ghost use Rattle.state.specs.Layout.{abs, Good};
+ghost use Rattle.book.specs.Ran.{Preambled, Laid, RanAll, Holds, Shown, Reprinted};
+use state::Registers;
 use tokens::Outcome;
 use tokens::refusals::refused;
 
@@ -35,4 +39,61 @@ pub fn run_all(
     crate::walks::every_page(w, s, places, last, q.used, allowance, rows);
     table::slots::clear(w, SCRATCH);
     Outcome::Done { value: last }
+}
+
+// The row and the sections of a result, of a run that ended in w with the registers q and began with so many cells.
+fn show(w: &[u8], q: Registers, before: usize, page: usize, rows: &mut [u8], sections: &mut [u8])
+    requires { ⌜ Good (now w) q × (q .steps ≤ 1000000) × (before ≤ q .used) × (16 * page + 16 ≤ length (now rows)) × (24052 ≤ length (now sections)) ⌝ }
+    ensures { λ _. ⌜ Shown (resultOf before (abs (now (w .entry)) q)) page (now (rows .entry)) (now (rows .exit)) (now (sections .entry)) (now (sections .exit)) ⌝ }
+{
+    crate::rows::put_row(rows, page, q, before);
+    state::sections::put_sections(sections, w, q, before);
+}
+
+// The result of one body, shown: the preamble's, which ended in w with q, or a page's, run from there.
+fn print_one(
+    s: &[u8],
+    places: &[usize],
+    page: usize,
+    allowance: usize,
+    w: &mut [u8],
+    q: Registers,
+    rows: &mut [u8],
+    sections: &mut [u8],
+)
+    requires { ⌜ Holds (now s) (now places) page × Preambled (slice (getD (now places) 0 0) (getD (now places) 1 0) (now s)) allowance (now w) q × (length (now s) ≤ 16777215) × (allowance ≤ 1000000) × (8208 ≤ length (now rows)) × (24052 ≤ length (now sections)) ⌝ }
+    ensures { λ _. ⌜ ((bodies : List (List ℕ)) → Placed (now (s .entry)) (now (places .entry)) bodies → page < length bodies → Shown (resultAt allowance bodies page) page (now (rows .entry)) (now (rows .exit)) (now (sections .entry)) (now (sections .exit))) ⌝ }
+{
+    if page == 0 {
+        show(w, q, 0, 0, rows, sections);
+        return;
+    }
+    let used = q.used;
+    let b = places[2 * page];
+    let f = places[2 * page + 1];
+    let r = crate::walks::page_of(w, s, places[0], places[1], b, f, used, allowance);
+    show(w, r, used, page, rows, sections);
+}
+
+// The preamble, then one page, or none where `page` is 0.
+pub fn reprint_one(
+    s: &[u8],
+    places: &[usize],
+    page: usize,
+    allowance: usize,
+    w: &mut [u8],
+    rows: &mut [u8],
+    sections: &mut [u8],
+) -> Outcome
+    requires { ⌜ Holds (now s) (now places) page × (length (now s) ≤ 16777215) × (allowance ≤ 1000000) × (length (now w) ≡ 48000) × (8208 ≤ length (now rows)) × (24052 ≤ length (now sections)) ⌝ }
+    ensures { λ r. ⌜ ((bodies : List (List ℕ)) → Placed (now (s .entry)) (now (places .entry)) bodies → page < length bodies → Reprinted allowance page bodies (now (w .exit)) (now (rows .entry)) (now (rows .exit)) (now (sections .entry)) (now (sections .exit)) r) ⌝ }
+{
+    let q = crate::walks::preamble_of(w, s, places[0], places[1], allowance);
+    if crate::rows::outcome_of(q) == OUT_OF_STEPS {
+        table::slots::clear(w, SCRATCH);
+        return refused(tokens::Refusal::PreambleUnfinished, 0);
+    }
+    print_one(s, places, page, allowance, w, q, rows, sections);
+    table::slots::clear(w, SCRATCH);
+    Outcome::Done { value: page }
 }

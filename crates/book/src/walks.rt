@@ -1,4 +1,4 @@
-// Bodies of a master run, by the places where they stand. In order: the preamble; a page and its row; every page.
+// Bodies of a master run, by the places where they stand. In order: the preamble; a page; its row; every page.
 ghost use mathlib.Core.Path.{_≡_};
 ghost use mathlib.Core.List.{List};
 ghost use Prim.Native.Nat.{ℕ, _+_, _*_, _<_, _≤_};
@@ -6,7 +6,7 @@ ghost use lib.ListN.{length, getD};
 ghost use lib.Seq.{slice, sets};
 ghost use Rattle.machine.specs.Page.{rowsFrom};
 ghost use Rattle.skeleton.specs.Spans.{Placed};
-ghost use Rattle.book.specs.Ran.{Preambled, Ready, Rowed, Laid};
+ghost use Rattle.book.specs.Ran.{Preambled, Paged, Ready, Rowed, Laid};
 use state::Registers;
 
 // The preamble of the master s, whose bytes are a to e.
@@ -17,7 +17,24 @@ pub fn preamble_of(w: &mut [u8], s: &[u8], a: usize, e: usize, allowance: usize)
     crate::pages::preamble(w, &s[a..e], &s[0..0], allowance)
 }
 
-// Page n of the master s, whose body's bytes are b to f; the preamble's are a to e.
+// A page of the master s, whose bytes are b to f; the preamble's are a to e, and `used` cells are its.
+pub fn page_of(
+    w: &mut [u8],
+    s: &[u8],
+    a: usize,
+    e: usize,
+    b: usize,
+    f: usize,
+    used: usize,
+    allowance: usize,
+) -> Registers
+    requires { ⌜ Ready (slice a e (now s)) allowance used (now w) × (length (now s) ≤ 16777215) × (a ≤ e) × (e ≤ length (now s)) × (b ≤ f) × (f ≤ length (now s)) × (allowance ≤ 1000000) ⌝ }
+    ensures { λ q. ⌜ Paged (slice a e (now (s .entry))) (slice b f (now (s .entry))) used allowance (now (w .entry)) (now (w .exit)) q ⌝ }
+{
+    crate::pages::page(w, &s[a..e], &s[b..f], used, allowance)
+}
+
+// The same, and its row, the n-th.
 fn page_row(
     w: &mut [u8],
     s: &[u8],
@@ -33,7 +50,7 @@ fn page_row(
     requires { ⌜ Ready (slice a e (now s)) allowance used (now w) × (length (now s) ≤ 16777215) × (a ≤ e) × (e ≤ length (now s)) × (b ≤ f) × (f ≤ length (now s)) × (allowance ≤ 1000000) × (16 * n + 16 ≤ length (now rows)) ⌝ }
     ensures { λ _. ⌜ Rowed (slice a e (now (s .entry))) (slice b f (now (s .entry))) allowance used n (now (w .exit)) (now (rows .entry)) (now (rows .exit)) ⌝ }
 {
-    let q = crate::pages::page(w, &s[a..e], &s[b..f], used, allowance);
+    let q = page_of(w, s, a, e, b, f, used, allowance);
     crate::rows::put_row(rows, n, q, used);
 }
 

@@ -7,7 +7,6 @@ use borrow.Author.Needs.{needs}
 use Rattle.book.proofs.numbers_in.count.Statement.{statement}
 use Rattle.book.proofs.numbers_in.count.Tie as tie
 
-
 pub count-spec : {M : Type 1} → statement M
 count-spec =
     tie.close
