@@ -7,8 +7,8 @@ ghost use lib.ListN.{length};
 ghost use Rattle.machine.specs.Limits.{scratchSize, rowsSize, sectionsSize};
 ghost use Rattle.machine.specs.Promise.{Runs, Reprints};
 ghost use Rattle.book.specs.Ran.{Admitted};
+use crate::arguments;
 use crate::books;
-use crate::numbers_in;
 use skeleton::pages::PLACES;
 use tokens::Outcome;
 use tokens::refusals::refused;
@@ -50,7 +50,7 @@ fn admit(s: &[u8], allowance: i64, enough: bool, places: &mut [usize]) -> Outcom
     if !enough {
         return refused(tokens::Refusal::TableTooShort, 0);
     }
-    if !numbers_in::within(allowance, 1, MOST_STEPS) {
+    if !arguments::within(allowance, 1, MOST_STEPS) {
         return refused(tokens::Refusal::BadAllowance, 0);
     }
     skeleton::pages::survey(s, places)
@@ -68,7 +68,7 @@ pub fn run(s: &[u8], allowance: i64, scratch: &mut [u8], rows: &mut [u8]) -> Out
         &mut places,
     ) {
         Outcome::Done { value } => {
-            let steps = numbers_in::count(allowance);
+            let steps = arguments::count(allowance);
             books::run_all(
                 s,
                 &places,
@@ -97,11 +97,11 @@ pub fn reprint(
     let room = room_to_reprint(scratch.len(), rows.len(), sections.len());
     match admit(s, allowance, room, &mut places) {
         Outcome::Done { value } => {
-            if !numbers_in::within(page, 0, value as i64) {
+            if !arguments::within(page, 0, value as i64) {
                 return refused(tokens::Refusal::NoSuchPage, 0);
             }
-            let number = numbers_in::count(page);
-            let steps = numbers_in::count(allowance);
+            let number = arguments::count(page);
+            let steps = arguments::count(allowance);
             let w = &mut scratch[0..books::SCRATCH];
             books::reprint_one(s, &places, number, steps, w, rows, sections)
         }

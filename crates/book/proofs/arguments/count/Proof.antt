@@ -1,11 +1,11 @@
--- `numbers_in::count` meets its contract. Assumes nothing.
+-- `arguments::count` meets its contract. Assumes nothing.
 use native.Mathlib.Omega.{arith}
 use lib.Signed.{natAbs-le}
 use mir.Facts.{toZ-ofZ}
 use Rattle.book.proofs.Admitting.{not-negative}
 use borrow.Author.Needs.{needs}
-use Rattle.book.proofs.numbers_in.count.Statement.{statement}
-use Rattle.book.proofs.numbers_in.count.Tie as tie
+use Rattle.book.proofs.arguments.count.Statement.{statement}
+use Rattle.book.proofs.arguments.count.Tie as tie
 
 pub count-spec : {M : Type 1} → statement M
 count-spec =

@@ -1,8 +1,8 @@
--- `numbers_in::within` meets its contract. Assumes nothing.
+-- `arguments::within` meets its contract. Assumes nothing.
 use mathlib.Core.Path.{refl}
 use mir.Facts.{toZ-ofZ}
-use Rattle.book.proofs.numbers_in.within.Statement.{statement}
-use Rattle.book.proofs.numbers_in.within.Tie as tie
+use Rattle.book.proofs.arguments.within.Statement.{statement}
+use Rattle.book.proofs.arguments.within.Tie as tie
 
 pub within-spec : {M : Type 1} → statement M
 within-spec =
