@@ -9,6 +9,7 @@ use lib.IntN.{ℤ, pos, negsuc, natAbs}
 use lib.Signed.{leZ, nonNeg}
 use lib.ListN.{length}
 use borrow.Author.Tests.{lt-leb, le-leb, leb-true}
+use Rattle.numbers.proofs.Cond.{both}
 use Rattle.tokens.specs.Format.{longest}
 use Rattle.tokens.specs.declared.Refusal.{Refusal}
 use Rattle.tokens.specs.declared.Refusal.the-variants.{TooLong, TableTooShort, BadAllowance}
@@ -33,13 +34,9 @@ pub natural-is : (z : ℤ) → leZ (pos 0) z ≡ true → z ≡ pos (natAbs z)
 natural-is (pos n) e = refl
 natural-is (negsuc n) e = absurd (false≢true e)
 
-pub both-true : (a b : Bool) → a && b ≡ true → (a ≡ true) × (b ≡ true)
-both-true true b e = (refl, e)
-both-true false b e = absurd (false≢true e)
-
 -- a number of steps that may be allowed
 pub steps-fit : (z : ℤ) → leZ (pos 1) z && leZ z (pos mostSteps) ≡ true → (leZ (pos 0) z ≡ true) × (natAbs z ≤ mostSteps)
-steps-fit (pos n) e = (le-leb 0 n (omega arith), leb-true n mostSteps (both-true (leZ (pos 1) (pos n)) _ e .1))
+steps-fit (pos n) e = (le-leb 0 n (omega arith), leb-true n mostSteps (both (leZ (pos 1) (pos n)) _ e .1))
 steps-fit (negsuc n) e = absurd (false≢true e)
 
 -- the same asked of the number as it stands in memory

@@ -11,7 +11,7 @@ use lib.Signed.{leZ}
 use lib.ListN.{length, getD, drop, replicate, length-replicate}
 use lib.Seq.{slice, sets, drop-length}
 use borrow.Author.Tests.{ne-eqb, leb-true}
-use Rattle.numbers.proofs.Cond.{either}
+use Rattle.numbers.proofs.Cond.{either, both}
 use Rattle.table.specs.Slots.{zeroed}
 use Rattle.table.proofs.Stores.{front}
 use Rattle.tokens.specs.declared.Refusal.{Refusal}
@@ -27,7 +27,7 @@ use Rattle.state.specs.declared.Registers.{Registers}
 use Rattle.state.specs.Layout.{abs}
 use Rattle.skeleton.specs.Spans.{Placed}
 use Rattle.book.specs.Ran.{Preambled, Ready, Laid, Goes, Admitted, RanAll}
-use Rattle.book.proofs.Admitting.{both-true, natural-is, steps-fit}
+use Rattle.book.proofs.Admitting.{natural-is, steps-fit}
 use Rattle.book.proofs.Walking.{rows-long}
 
 -- a table of just the size, cleared
@@ -125,4 +125,4 @@ module _ {s t : List ℕ} {z : ℤ} {b : Bool} {last : ℕ} (g : Goes s z b t la
   some-steps e = rw e (steps-fit z (g .steps) .0)
 
 pub run-room : {s t : List ℕ} {z : ℤ} {last : ℕ} (scratch rows : ℕ) → Goes s z (leb scratchSize scratch && leb rowsSize rows) t last → (scratchSize ≤ scratch) × (rowsSize ≤ rows)
-run-room scratch rows g = let x = both-true (leb scratchSize scratch) (leb rowsSize rows) (g .tables) in (leb-true scratchSize scratch (x .0), leb-true rowsSize rows (x .1))
+run-room scratch rows g = let x = both (leb scratchSize scratch) (leb rowsSize rows) (g .tables) in (leb-true scratchSize scratch (x .0), leb-true rowsSize rows (x .1))

@@ -8,3 +8,5 @@ pub mod Paging
 pub mod Admitting
 pub mod Booking
 pub mod Reprinting
+pub mod Corrected
+pub mod Theorems

@@ -12,7 +12,7 @@ use lib.Seq.{slice, sets, sets-eq}
 use mir.Syntax.{w64}
 use mir.Val.{SFits}
 use borrow.Author.Tests.{leb-true, lt-leb, le-leb, lt-ltb, le-ltb}
-use Rattle.numbers.proofs.Cond.{split}
+use Rattle.numbers.proofs.Cond.{both, split}
 use Rattle.tokens.specs.declared.Refusal.{Refusal}
 use Rattle.tokens.specs.declared.Refusal.the-variants.{PreambleUnfinished, NoSuchPage}
 use Rattle.tokens.specs.declared.Outcome.{Outcome}
@@ -25,7 +25,7 @@ use Rattle.state.specs.declared.Registers.{Registers}
 use Rattle.state.specs.Layout.{abs}
 use Rattle.skeleton.specs.Spans.{Placed}
 use Rattle.book.specs.Ran.{Preambled, Paged, Goes, Admitted, Holds, Shown, Reprinted}
-use Rattle.book.proofs.Admitting.{both-true, natural-is, steps-fit}
+use Rattle.book.proofs.Admitting.{natural-is, steps-fit}
 use Rattle.book.proofs.Walking.{row-long, result-at}
 use Rattle.book.proofs.Paging.{result-is}
 use Rattle.book.proofs.Booking.{ends, ran-out, ran-on, ready-of, scratch-clear}
@@ -87,7 +87,7 @@ page-there (pos n) last many e = rw (up-to n last many e) refl
 page-there (negsuc n) last many e = refl
 
 page-below : (z : ℤ) (last many n : ℕ) → many ≡ last + 1 → n ≡ natAbs z → leZ (pos 0) z && leZ z (pos last) ≡ true → n < many
-page-below (pos m) last many n e f g = omega (arith, leb-true m last (both-true (leZ (pos 0) (pos m)) (leZ (pos m) (pos last)) g .1))
+page-below (pos m) last many n e f g = omega (arith, leb-true m last (both (leZ (pos 0) (pos m)) (leZ (pos m) (pos last)) g .1))
 page-below (negsuc m) last many n e f g = absurd (false≢true g)
 
 module _ (s : List ℕ) (z page : ℤ) (scratch rows sections : List ℕ) where
@@ -114,7 +114,7 @@ module _ (s : List ℕ) (z page : ℤ) (scratch rows sections : List ℕ) where
     reprint-done a n w′ rows′ sections′ r e ea en f =
         let x = f (g .bodies) (g .placed) (page-below page last (length (g .bodies)) n (g .many) en e) in
         let za : pos a ≡ z = ap pos ea ∙ sym (natural-is z (steps-fit z (g .steps) .0)) in
-        let zn : pos n ≡ page = ap pos en ∙ sym (natural-is page (both-true (leZ (pos 0) page) (leZ page (pos last)) e .0)) in
+        let zn : pos n ≡ page = ap pos en ∙ sym (natural-is page (both (leZ (pos 0) page) (leZ page (pos last)) e .0)) in
         let v : reprintVerdict s z page scratch rows sections ≡ finished (pos a) (g .bodies) = g .verdict (paged z page) ∙ (rw (sym (page-there page last (length (g .bodies)) (g .many)) ∙ e, za)) in
         record {
           answer = rw (v, ← zn) (x .answer);
@@ -131,13 +131,13 @@ pub page-held : {s t : List ℕ} {z : ℤ} {b : Bool} {last n : ℕ} (page : ℤ
 page-held {last = last} {n = n} page l g e f = record { wide = l; bodies = g .bodies; placed = g .placed; there = page-below page last (length (g .bodies)) n (g .many) f e }
 
 pub page-counts : {x z : ℤ} (last : ℕ) → x ≡ z → leZ (pos 0) z && leZ z (pos last) ≡ true → leZ (pos 0) x ≡ true
-page-counts {z = z} last e f = rw e (both-true (leZ (pos 0) z) (leZ z (pos last)) f .0)
+page-counts {z = z} last e f = rw e (both (leZ (pos 0) z) (leZ z (pos last)) f .0)
 
 pub page-fits : {s t : List ℕ} {z : ℤ} {b : Bool} {last : ℕ} → Goes s z b t last → SFits w64 (pos last)
 page-fits g = record { sfits = omega (arith, g .placed .few, g .many) }
 
 pub reprint-room : {s t : List ℕ} {z : ℤ} {last : ℕ} (scratch rows sections : ℕ) → Goes s z (leb scratchSize scratch && (leb rowsSize rows && leb sectionsSize sections)) t last → (scratchSize ≤ scratch) × (rowsSize ≤ rows) × (sectionsSize ≤ sections)
 reprint-room scratch rows sections g =
-    let x = both-true (leb scratchSize scratch) (leb rowsSize rows && leb sectionsSize sections) (g .tables) in
-    let y = both-true (leb rowsSize rows) (leb sectionsSize sections) (x .1) in
+    let x = both (leb scratchSize scratch) (leb rowsSize rows && leb sectionsSize sections) (g .tables) in
+    let y = both (leb rowsSize rows) (leb sectionsSize sections) (x .1) in
     (leb-true scratchSize scratch (x .0), leb-true rowsSize rows (y .0), leb-true sectionsSize sections (y .1))

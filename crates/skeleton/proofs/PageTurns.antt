@@ -37,7 +37,7 @@ use Rattle.skeleton.specs.Turns.{pageOr, pageTurn, endTurn, turnBy, turn
 -- ---- a turn
 
 -- what a turn makes of the bodies so far
-unfoldable pub turned : List Span → ℕ → Turn → (ℕ → List Span → Skeleton) → Skeleton
+unfoldable turned : List Span → ℕ → Turn → (ℕ → List Span → Skeleton) → Skeleton
 turned spans at (Aside next) rest = rest next spans
 turned spans at (Page next) rest = rest next (spans ++ (spanOf at next ∷ []))
 turned spans at Ended rest = sound spans
@@ -77,12 +77,12 @@ unfolding pagesFrom turnAt turned turnBy
 page-turned-by zero s at spans h = rw (token-end s at (omega arith))
 page-turned-by (suc k) s at spans h = let e : suc k - 1 ≡ k = omega arith in rw e (outer-turned s spans at (pagesFrom k s) (tokenAt s at))
 
-pub by-turn : (k : ℕ) (s : List ℕ) (p had : ℕ) (spans : List Span) (t : Turn) → length s ≤ p + k → length spans ≡ had → turnAt s had p ≡ t
+by-turn : (k : ℕ) (s : List ℕ) (p had : ℕ) (spans : List Span) (t : Turn) → length s ≤ p + k → length spans ≡ had → turnAt s had p ≡ t
     → pagesFrom k s p spans ≡ turned spans p t (pagesFrom (k - 1) s)
 by-turn k s p had spans t h e f = page-turned-by k s p spans h ∙ rw (e, f)
 
 -- reading goes on past where the turn began
-abbrev pub Onward : ℕ → ℕ → Turn → Type 0
+abbrev Onward : ℕ → ℕ → Turn → Type 0
 Onward n at (Aside next) = (at < next) × (next ≤ n)
 Onward n at (Page next) = (at < next) × (next ≤ n)
 Onward n at Ended = Unit
@@ -109,7 +109,7 @@ turn-onward : (s : List ℕ) (bodies at : ℕ) → Onward (length s) at (turnAt 
 unfolding turnAt
 turn-onward s bodies at = turn-by (length s) at s bodies (body-later mostOpen s at) (tokenAt s at) (token-inside s at)
 
-pub onward-by : (s : List ℕ) (had p : ℕ) (t : Turn) → turnAt s had p ≡ t → Onward (length s) p t
+onward-by : (s : List ℕ) (had p : ℕ) (t : Turn) → turnAt s had p ≡ t → Onward (length s) p t
 onward-by s had p t e = rw e at (turn-onward s had p)
 
 -- ---- a body more

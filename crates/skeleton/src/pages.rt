@@ -62,7 +62,7 @@ fn barred_turn(place: usize) -> Turn
 }
 
 // The token at `at`, where a page or END is due and `had` bodies have been read.
-pub fn turn(s: &[u8], had: usize, at: usize) -> Turn
+fn turn(s: &[u8], had: usize, at: usize) -> Turn
     ensures { λ r. ⌜ r ≡ turnAt (now (s .entry)) had at ⌝ }
 {
     match tokens::reading::read_token(s, at) {

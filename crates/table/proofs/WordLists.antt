@@ -6,8 +6,8 @@ use native.Mathlib.Omega.{arith}
 use native.Mathlib.Numerals.{towards-suc}
 use lib.ListN.{length, getD, set, take}
 use lib.Seq.{sets}
-use Rattle.table.specs.Words.{wordAt, wordBytes}
-use Rattle.table.specs.Slots.{wordOf, wordsOf}
+use Rattle.table.specs.Words.{wordOf, wordAt, wordBytes}
+use Rattle.table.specs.Slots.{wordsOf}
 use Rattle.table.proofs.Stores.{word-joined}
 
 four : (i : ℕ) → 4 * suc i ≡ suc (suc (suc (suc (4 * i))))

@@ -1,13 +1,10 @@
 -- A table of bytes as a list of slots of five words, from the front. Bytes after the last whole slot are no part of it. In order: words;
 -- slots; parts of the list; moves. Assumes nothing.
-use Prim.Native.Nat.{ℕ, zero, suc, _+_, _*_}
+use Prim.Native.Nat.{ℕ, zero, suc, _+_}
 use mathlib.Core.List.{List, [], _∷_, _++_}
 use lib.ListN.{getD, set, replicate, drop}
 use Rattle.table.specs.declared.Slot.{Slot}
-use Rattle.table.specs.Words.{wordBytes}
-
-abbrev pub wordOf : ℕ → ℕ → ℕ → ℕ → ℕ
-wordOf a b c d = a + b * 256 + c * 65536 + d * 16777216
+use Rattle.table.specs.Words.{wordOf, wordBytes}
 
 unfoldable pub wordsOf : List ℕ → List ℕ
 wordsOf [] = []
