@@ -89,6 +89,6 @@ module _ (s : List ℕ) (a : ℤ) (c : ℕ) (l : Loads s (Done c)) (f : allowed 
     unfolding reprintVerdict reprintAnswer paged
     reprints-done {k} {scratch} {scratch′} {rows} {rows′} {sections} {sections′} {r} p h x y z =
         let v : reprintVerdict s a (pos k) scratch rows sections ≡ accepted (bodiesIn s) =
-          judged _ (paged a (pos k)) (rw (le-leb scratchSize (length scratch) x, le-leb rowsSize (length rows) y, le-leb sectionsSize (length sections) z)) ∙
-          (rw (le-leb 0 k (omega arith), lt-ltb k (length (bodiesIn s)) h) ended) in
+        judged _ (paged a (pos k)) (rw (le-leb scratchSize (length scratch) x, le-leb rowsSize (length rows) y, le-leb sectionsSize (length sections) z)) ∙
+        (rw (le-leb 0 k (omega arith), lt-ltb k (length (bodiesIn s)) h) ended) in
         (rw v at (p .answer))

@@ -2,8 +2,9 @@
 ghost use mathlib.Core.Path.{_≡_};
 ghost use mathlib.Core.List.{List};
 ghost use Prim.Native.Nat.{ℕ, _+_, _*_, _<_, _≤_};
-ghost use lib.ListN.{length, getD};
+ghost use lib.ListN.{length, getD, replicate};
 ghost use lib.Seq.{slice};
+ghost use Rattle.machine.specs.Limits.{scratchSize};
 ghost use Rattle.machine.specs.Page.{resultOf, resultAt};
 ghost use Rattle.skeleton.specs.Spans.{Placed};
 ghost use Rattle.state.specs.Layout.{abs, Good};
@@ -17,6 +18,14 @@ pub const SCRATCH: usize = 48000;
 
 // A preamble that ran out of steps.
 const OUT_OF_STEPS: u32 = 3;
+
+// The table as it is left.
+fn wipe(w: &mut [u8])
+    requires { ⌜ length (now w) ≡ 48000 ⌝ }
+    ensures { λ _. ⌜ now (w .exit) ≡ replicate scratchSize 0 ⌝ }
+{
+    table::slots::clear(w, SCRATCH);
+}
 
 // The preamble and pages 1 to `last`.
 pub fn run_all(
@@ -32,12 +41,12 @@ pub fn run_all(
 {
     let q = crate::walks::preamble_of(w, s, places[0], places[1], allowance);
     if crate::rows::outcome_of(q) == OUT_OF_STEPS {
-        table::slots::clear(w, SCRATCH);
+        wipe(w);
         return refused(tokens::Refusal::PreambleUnfinished, 0);
     }
     crate::rows::put_row(rows, 0, q, 0);
     crate::walks::every_page(w, s, places, last, q.used, allowance, rows);
-    table::slots::clear(w, SCRATCH);
+    wipe(w);
     Outcome::Done { value: last }
 }
 
@@ -90,10 +99,10 @@ pub fn reprint_one(
 {
     let q = crate::walks::preamble_of(w, s, places[0], places[1], allowance);
     if crate::rows::outcome_of(q) == OUT_OF_STEPS {
-        table::slots::clear(w, SCRATCH);
+        wipe(w);
         return refused(tokens::Refusal::PreambleUnfinished, 0);
     }
     print_one(s, places, page, allowance, w, q, rows, sections);
-    table::slots::clear(w, SCRATCH);
+    wipe(w);
     Outcome::Done { value: page }
 }

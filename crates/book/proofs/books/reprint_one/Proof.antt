@@ -1,11 +1,10 @@
 -- `books::reprint_one` meets its contract. Assumes nothing.
-use mathlib.Core.Path.{_∙_}
 use native.Mathlib.Omega.{arith}
-use Rattle.book.proofs.Booking.{clear-all}
 use Rattle.book.proofs.Reprinting.{page-asks, one-unfinished, one-ran}
 use borrow.Author.Needs.{needs}
 use Rattle.book.proofs.books.reprint_one.Statement.{statement}
 use Rattle.book.proofs.books.reprint_one.Tie as tie
+
 
 pub reprint-one-spec : {M : Type 1} → statement M
 reprint-one-spec =
@@ -18,10 +17,10 @@ reprint-one-spec =
     (λ c κs. search needs)
     (λ c κs. search needs)
     (λ c. search needs)
-    (λ c. λ bodies l h. one-unfinished (c .before .before .before .before .before .before .before .before .before .before .before .before .before .before .before .before .before .before .args .s .now) (c .before .before .before .before .before .before .before .before .before .before .before .before .before .before .before .before .before .before .args .places .now) _ _ _ _ l (c .before .before .before .before .before .before .before .before .before .preamble-of .ensures) _ _ _ _ _ _ (c .before .before .before .before .before .before .outcome-of .ensures) (c .before .before .before .before .before .if1 .taken) (c .before .before .before .clear .ensures ∙ clear-all _ (search needs)) (c .refused .ensures))
+    (λ c. λ bodies l h. one-unfinished (c .before .before .before .before .before .before .before .before .before .before .before .before .before .before .before .before .before .before .args .s .now) (c .before .before .before .before .before .before .before .before .before .before .before .before .before .before .before .before .before .before .args .places .now) _ _ _ _ l (c .before .before .before .before .before .before .before .before .before .preamble-of .ensures) _ _ _ _ _ _ (c .before .before .before .before .before .before .outcome-of .ensures) (c .before .before .before .before .before .if1 .taken) (c .before .before .before .wipe .ensures) (c .refused .ensures))
     (λ c κs. search needs)
     (λ c κs. search needs)
     (λ c. search needs)
     (λ c. search needs)
     (λ c. search needs)
-    (λ c. λ bodies l h. one-ran (c .before .before .before .before .before .before .before .before .before .before .before .before .before .before .before .before .before .before .before .before .before .before .before .before .before .before .before .args .s .now) (c .before .before .before .before .before .before .before .before .before .before .before .before .before .before .before .before .before .before .before .before .before .before .before .before .before .before .before .args .places .now) _ _ _ _ l (c .before .before .before .before .before .before .before .before .before .before .before .before .before .before .before .before .before .before .preamble-of .ensures) _ _ _ _ _ _ _ h (c .before .before .before .before .before .before .before .before .before .before .before .before .before .before .before .before .before .before .before .before .before .before .before .before .before .before .before .pre .4) (c .before .before .before .before .before .before .before .before .before .before .before .before .before .before .before .outcome-of .ensures) (c .before .before .before .before .before .before .before .before .before .before .before .before .before .before .if1 .left) (c .before .before .clear2 .ensures ∙ clear-all _ (search needs)) (c .before .before .before .before .before .before .before .before .before .before .print-one .ensures)))
+    (λ c. λ bodies l h. one-ran (c .before .before .before .before .before .before .before .before .before .before .before .before .before .before .before .before .before .before .before .before .before .before .before .before .before .before .before .args .s .now) (c .before .before .before .before .before .before .before .before .before .before .before .before .before .before .before .before .before .before .before .before .before .before .before .before .before .before .before .args .places .now) _ _ _ _ l (c .before .before .before .before .before .before .before .before .before .before .before .before .before .before .before .before .before .before .preamble-of .ensures) _ _ _ _ _ _ _ h (c .before .before .before .before .before .before .before .before .before .before .before .before .before .before .before .before .before .before .before .before .before .before .before .before .before .before .before .pre .4) (c .before .before .before .before .before .before .before .before .before .before .before .before .before .before .before .outcome-of .ensures) (c .before .before .before .before .before .before .before .before .before .before .before .before .before .before .if1 .left) (c .before .before .wipe2 .ensures) (c .before .before .before .before .before .before .before .before .before .before .print-one .ensures)))

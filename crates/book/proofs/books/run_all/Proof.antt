@@ -1,10 +1,10 @@
 -- `books::run_all` meets its contract. Assumes nothing.
-use mathlib.Core.Path.{_∙_}
 use native.Mathlib.Omega.{arith}
-use Rattle.book.proofs.Booking.{clear-all, ready-of, all-unfinished, all-ran}
+use Rattle.book.proofs.Booking.{ready-of, all-unfinished, all-ran}
 use borrow.Author.Needs.{needs}
 use Rattle.book.proofs.books.run_all.Statement.{statement}
 use Rattle.book.proofs.books.run_all.Tie as tie
+
 
 pub run-all-spec : {M : Type 1} → statement M
 run-all-spec =
@@ -17,10 +17,10 @@ run-all-spec =
     (λ c κs. search needs)
     (λ c κs. search needs)
     (λ c. search needs)
-    (λ c. λ bodies l m. all-unfinished (c .before .before .before .before .before .before .before .before .before .before .before .before .before .before .before .before .before .args .s .now) (c .before .before .before .before .before .before .before .before .before .before .before .before .before .before .before .before .before .args .places .now) _ _ _ _ l (c .before .before .before .before .before .before .before .before .before .preamble-of .ensures) _ _ _ _ (c .before .before .before .before .before .before .outcome-of .ensures) (c .before .before .before .before .before .if1 .taken) (c .before .before .before .clear .ensures ∙ clear-all _ (search needs)) (c .refused .ensures))
+    (λ c. λ bodies l m. all-unfinished (c .before .before .before .before .before .before .before .before .before .before .before .before .before .before .before .before .before .args .s .now) (c .before .before .before .before .before .before .before .before .before .before .before .before .before .before .before .before .before .args .places .now) _ _ _ _ l (c .before .before .before .before .before .before .before .before .before .preamble-of .ensures) _ _ _ _ (c .before .before .before .before .before .before .outcome-of .ensures) (c .before .before .before .before .before .if1 .taken) (c .before .before .before .wipe .ensures) (c .refused .ensures))
     (λ c κs. search needs)
     (λ c κs. (c .before .before .before .before .before .before .before .before .before .before .before .before .before .before .before .before .before .before .pre .0, ready-of _ _ _ _ (c .before .before .before .before .before .before .before .before .before .before .preamble-of .ensures), c .before .before .before .before .before .before .before .before .before .before .before .before .before .before .before .before .before .before .pre .1, c .before .before .before .before .before .before .before .before .before .before .before .before .before .before .before .before .before .before .pre .2, search needs))
     (λ c κs. search needs)
     (λ c. search needs)
     (λ c. search needs)
-    (λ c. λ bodies l m. all-ran (c .before .before .before .before .before .before .before .before .before .before .before .before .before .before .before .before .before .before .before .before .before .before .before .before .before .before .before .args .s .now) (c .before .before .before .before .before .before .before .before .before .before .before .before .before .before .before .before .before .before .before .before .before .before .before .before .before .before .before .args .places .now) _ _ _ _ l (c .before .before .before .before .before .before .before .before .before .before .before .before .before .before .before .before .before .before .before .preamble-of .ensures) _ _ _ _ _ _ m (c .before .before .before .before .before .before .before .before .before .before .before .before .before .before .before .before .before .before .before .before .before .before .before .before .before .before .before .pre .4) (c .before .before .before .before .before .before .before .before .before .before .before .before .before .before .before .before .outcome-of .ensures) (c .before .before .before .before .before .before .before .before .before .before .before .before .before .before .before .if1 .left) (c .before .before .before .before .before .before .before .before .before .before .before .before .before .put-row .ensures) (c .before .before .before .before .before .before .before .before .every-page .ensures) (c .before .before .clear2 .ensures ∙ clear-all _ (search needs))))
+    (λ c. λ bodies l m. all-ran (c .before .before .before .before .before .before .before .before .before .before .before .before .before .before .before .before .before .before .before .before .before .before .before .before .before .before .before .args .s .now) (c .before .before .before .before .before .before .before .before .before .before .before .before .before .before .before .before .before .before .before .before .before .before .before .before .before .before .before .args .places .now) _ _ _ _ l (c .before .before .before .before .before .before .before .before .before .before .before .before .before .before .before .before .before .before .before .preamble-of .ensures) _ _ _ _ _ _ m (c .before .before .before .before .before .before .before .before .before .before .before .before .before .before .before .before .before .before .before .before .before .before .before .before .before .before .before .pre .4) (c .before .before .before .before .before .before .before .before .before .before .before .before .before .before .before .before .outcome-of .ensures) (c .before .before .before .before .before .before .before .before .before .before .before .before .before .before .before .if1 .left) (c .before .before .before .before .before .before .before .before .before .before .before .before .before .put-row .ensures) (c .before .before .before .before .before .before .before .before .every-page .ensures) (c .before .before .wipe2 .ensures)))
