@@ -8,15 +8,45 @@ use tokens::Outcome;
 // What every byte of a lent table holds before a call.
 const LENT: u8 = 165;
 
-// The number at a place, 0 past the end.
-fn number_at(bytes: &[u8], at: usize) -> usize {
+// Longer than every table here.
+const WRONG: usize = 65536;
+
+// Where the numbers of a record stand, and its texts.
+const CALL: usize = 0;
+
+const NUMBER: usize = 4;
+
+const VALUE: usize = 8;
+
+const ALLOWANCE: usize = 12;
+
+const PAGE: usize = 16;
+
+const FIRST: usize = 20;
+
+const SECOND: usize = 24;
+
+const THIRD: usize = 28;
+
+const TEXTS: usize = 32;
+
+// The word at a place, 0 past the end.
+fn word_at(bytes: &[u8], at: usize) -> u32 {
     if bytes.len() < 4 {
         return 0;
     }
     if bytes.len() - 4 < at {
         return 0;
     }
-    table::words::get_word(bytes, at) as usize
+    table::words::get_word(bytes, at)
+}
+
+fn number_at(bytes: &[u8], at: usize) -> usize {
+    table::words::size(word_at(bytes, at))
+}
+
+fn signed_at(bytes: &[u8], at: usize) -> i64 {
+    numbers::words::of_word(word_at(bytes, at)) as i64
 }
 
 // `len` bytes from a place on; none where the bytes end before.
@@ -43,8 +73,8 @@ fn text_at(bytes: &[u8], at: usize) -> &[u8] {
     part(bytes, at + 4, number_at(bytes, at))
 }
 
-// The place after the number at a place.
-fn after_number(bytes: &[u8], at: usize) -> usize
+// The place after the text at a place.
+fn after_text(bytes: &[u8], at: usize) -> usize
     ensures { λ r. ⌜ (r ≤ length (now (bytes .entry))) × (at < length (now (bytes .entry)) → at < r) ⌝ }
 {
     if bytes.len() < at {
@@ -53,22 +83,22 @@ fn after_number(bytes: &[u8], at: usize) -> usize
     if bytes.len() - at < 4 {
         return bytes.len();
     }
-    at + 4
+    let len = number_at(bytes, at);
+    if bytes.len() - at - 4 < len {
+        return bytes.len();
+    }
+    at + 4 + len
 }
 
-// The place after the text at a place.
-fn after_text(bytes: &[u8], at: usize) -> usize
-    ensures { λ r. ⌜ (r ≤ length (now (bytes .entry))) × (at < length (now (bytes .entry)) → at < r) ⌝ }
-{
-    let from = after_number(bytes, at);
-    let len = number_at(bytes, at);
-    if bytes.len() < from {
-        return bytes.len();
+// The text of a record after n others: name, input, text, what is left in each table.
+fn nth_text(record: &[u8], n: usize) -> &[u8] {
+    let mut at = TEXTS;
+    let mut k: usize = 0;
+    while k < n {
+        at = after_text(record, at);
+        k += 1;
     }
-    if bytes.len() - from < len {
-        return bytes.len();
-    }
-    from + len
+    text_at(record, at)
 }
 
 // Fills a table with the byte that it is lent with.
@@ -80,69 +110,119 @@ fn lend(lent: &mut [u8]) {
     }
 }
 
-// The table begins with what is wanted, and the rest is as lent.
-fn holds(lent: &[u8], wanted: &[u8]) -> bool {
-    if lent.len() < wanted.len() {
+// From a place on the table is as lent.
+fn as_lent(lent: &[u8], from: usize) -> bool {
+    if lent.len() < from {
         return false;
     }
-    let mut i: usize = 0;
+    let mut i = from;
     while i < lent.len() {
-        if i < wanted.len() {
-            if lent[i] != wanted[i] {
-                return false;
-            }
-        } else {
-            if lent[i] != LENT {
-                return false;
-            }
+        if lent[i] != LENT {
+            return false;
         }
         i += 1;
     }
     true
 }
 
-fn answers(outcome: Outcome, number: usize, value: usize) -> bool {
-    if tokens::refusals::answer_number(outcome) as usize != number {
-        return false;
+// The place after the bytes that must stand at `from`.
+fn after_bytes(lent: &[u8], from: usize, wanted: &[u8]) -> usize {
+    if lent.len() < from {
+        return WRONG;
     }
-    tokens::refusals::answer_value(outcome) == value
+    if lent.len() - from < wanted.len() {
+        return WRONG;
+    }
+    let mut i: usize = 0;
+    while i < wanted.len() {
+        if lent[from + i] != wanted[i] {
+            return WRONG;
+        }
+        i += 1;
+    }
+    from + wanted.len()
 }
 
-// The call of a case: 1 reads back, 3 loads, any other writes.
-fn answer_of(
-    call: usize,
-    given: &[u8],
-    text: &[u8],
-    first: &mut [u8],
-    second: &mut [u8],
-) -> Outcome {
+// The place after a run that must stand at `from`: how many times, then the bytes that come so often.
+fn after_run(lent: &[u8], from: usize, run: &[u8]) -> usize {
+    let times = number_at(run, 0);
+    if run.len() < 4 {
+        return WRONG;
+    }
+    let bytes = part(run, 4, run.len() - 4);
+    let mut p = from;
+    let mut k: usize = 0;
+    while k < times {
+        p = after_bytes(lent, p, bytes);
+        k += 1;
+    }
+    p
+}
+
+// The table is the runs, one after another, and then as lent.
+fn holds(lent: &[u8], runs: &[u8]) -> bool {
+    let mut p: usize = 0;
+    let mut at: usize = 0;
+    while at < runs.len() {
+        p = after_run(lent, p, text_at(runs, at));
+        at = after_text(runs, at);
+    }
+    as_lent(lent, p)
+}
+
+fn answers(record: &[u8], outcome: Outcome) -> bool {
+    if tokens::refusals::answer_number(outcome) as usize != number_at(record, NUMBER) {
+        return false;
+    }
+    tokens::refusals::answer_value(outcome) == number_at(record, VALUE)
+}
+
+// The call of a case: 1 reads back, 2 writes, 3 loads, 4 runs, any other reprints.
+fn answer_of(record: &[u8], first: &mut [u8], second: &mut [u8], third: &mut [u8]) -> Outcome {
+    let call = number_at(record, CALL);
+    let given = nth_text(record, 1);
+    let allowance = signed_at(record, ALLOWANCE);
     if call == 1 {
         return lists::back::read_back(given, first, second);
+    }
+    if call == 2 {
+        return lists::writing::write(given, nth_text(record, 2), first);
     }
     if call == 3 {
         return skeleton::pages::load(given);
     }
-    lists::writing::write(given, text, first)
+    if call == 4 {
+        return book::calls::run(given, allowance, first, second);
+    }
+    book::calls::reprint(
+        given,
+        allowance,
+        signed_at(record, PAGE),
+        first,
+        second,
+        third,
+    )
 }
 
-// One case: the record's part after its name, from `at` on. The tables are as long as the record says.
-fn is_right(bytes: &[u8], call: usize, at: usize, first: &mut [u8], second: &mut [u8]) -> bool {
-    let number = number_at(bytes, at);
-    let value = number_at(bytes, after_number(bytes, at));
-    let input = after_number(bytes, after_number(bytes, at));
-    let given = text_at(bytes, input);
-    let text = text_at(bytes, after_text(bytes, input));
-    let sizes = after_text(bytes, after_text(bytes, input));
-    let left = after_number(bytes, after_number(bytes, sizes));
+// Every table is left as its record wants.
+fn all_hold(record: &[u8], first: &[u8], second: &[u8], third: &[u8]) -> bool {
+    if !holds(first, nth_text(record, 3)) {
+        return false;
+    }
+    if !holds(second, nth_text(record, 4)) {
+        return false;
+    }
+    holds(third, nth_text(record, 5))
+}
+
+// One case, in tables as long as its record asks.
+fn is_right(record: &[u8], first: &mut [u8], second: &mut [u8], third: &mut [u8]) -> bool {
     lend(first);
     lend(second);
-    if !answers(answer_of(call, given, text, first, second), number, value) {
-        return false;
-    }
-    if !holds(first, text_at(bytes, left)) {
-        return false;
-    }
-    holds(second, text_at(bytes, after_text(bytes, left)))
+    lend(third);
+    let outcome = answer_of(record, first, second, third);
+    let left = all_hold(record, first, second, third);
+    answers(record, outcome) && left
 }
 
 // The smaller of two.
@@ -152,20 +232,15 @@ fn least(a: usize, b: usize) -> usize
     if a < b { a } else { b }
 }
 
-// The case at `at`, in tables of the lengths that its record asks.
-fn run_case(bytes: &[u8], at: usize, first: &mut [u8], second: &mut [u8]) -> bool {
-    let call = number_at(bytes, at);
-    let name = after_number(bytes, at);
-    let answer = after_text(bytes, name);
-    let input = after_number(bytes, after_number(bytes, answer));
-    let sizes = after_text(bytes, after_text(bytes, input));
-    let n = least(number_at(bytes, sizes), first.len());
-    let m = least(number_at(bytes, after_number(bytes, sizes)), second.len());
-    if is_right(bytes, call, answer, &mut first[..n], &mut second[..m]) {
+fn run_case(record: &[u8], first: &mut [u8], second: &mut [u8], third: &mut [u8]) -> bool {
+    let a = least(number_at(record, FIRST), first.len());
+    let b = least(number_at(record, SECOND), second.len());
+    let c = least(number_at(record, THIRD), third.len());
+    if is_right(record, &mut first[..a], &mut second[..b], &mut third[..c]) {
         return true;
     }
     io::write_all(STDOUT_FILENO, b"wrong: ");
-    io::write_all(STDOUT_FILENO, text_at(bytes, name));
+    io::write_all(STDOUT_FILENO, nth_text(record, 0));
     io::write_all(STDOUT_FILENO, b"\n");
     false
 }
@@ -176,13 +251,12 @@ struct Counts {
 }
 
 // Runs the cases one after another.
-fn run_all(bytes: &[u8], first: &mut [u8], second: &mut [u8]) -> Counts {
+fn run_all(bytes: &[u8], first: &mut [u8], second: &mut [u8], third: &mut [u8]) -> Counts {
     let mut at: usize = 0;
     let mut right: usize = 0;
     let mut wrong: usize = 0;
     while at < bytes.len() {
-        let start = after_number(bytes, at);
-        if run_case(bytes, start, first, second) {
+        if run_case(text_at(bytes, at), first, second, third) {
             right += 1;
         } else {
             wrong += 1;
@@ -206,10 +280,11 @@ fn main() {
         os::fail(path);
         return;
     }
-    let mut bytes = [0u8; 65536];
+    let mut bytes = [0u8; 131072];
     let n = io::read_full(file, &mut bytes);
     libc::close(file);
-    let mut first = [0u8; 65536];
-    let mut second = [0u8; 65536];
-    say(run_all(&bytes[..n], &mut first, &mut second));
+    let mut first = [0u8; 49152];
+    let mut second = [0u8; 16384];
+    let mut third = [0u8; 24576];
+    say(run_all(&bytes[..n], &mut first, &mut second, &mut third));
 }

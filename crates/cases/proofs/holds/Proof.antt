@@ -1,14 +1,16 @@
+-- `holds` is safe and ends: after a text lies a later place. Assumes nothing.
+use Prim.Native.Nat.{_≤_, _-_}
 use lib.ListN.{length}
-use Prim.Native.Nat.{_-_, _≤_}
 use native.Mathlib.Omega.{arith}
+use borrow.Author.Needs.{needs}
 use Rattle.cases.proofs.holds.Statement.{statement}
 use Rattle.cases.proofs.holds.Tie as tie
 
 abbrev Inv-loop : tie.InvT-loop
-Inv-loop lent wanted i₀ i = i ≤ length lent
+Inv-loop lent runs p₀ at₀ p at = at ≤ length runs
 
 abbrev μ-loop : tie.MeasureT-loop
-μ-loop lent wanted i₀ i = length lent - i
+μ-loop lent runs p₀ at₀ p at = length runs - at
 
 pub holds-spec : {M : Type 1} → statement M
 holds-spec =
@@ -16,14 +18,11 @@ holds-spec =
     (tie.spec
     Inv-loop
     μ-loop
-    (λ c. tt)
-    (λ c. omega arith)
-    (λ c. omega arith)
-    (λ c. omega arith)
-    (λ c. tt)
-    (λ c. omega arith)
-    (λ c. tt)
-    (λ c. omega arith)
-    (λ c. omega arith)
-    (λ c. omega arith)
-    (λ c. tt))
+    (λ c. search needs)
+    (λ c κs. search needs)
+    (λ c κs. search needs)
+    (λ c κs. search needs)
+    (λ c. omega (arith, c .after-text .ensures .0, c .after-text .ensures .1 (omega arith)))
+    (λ c. c .after-text .ensures .0)
+    (λ c κs. search needs)
+    (λ c. search needs))

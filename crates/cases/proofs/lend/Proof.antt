@@ -1,3 +1,4 @@
+-- `lend` is safe and ends; the table stays as long. Assumes nothing.
 use lib.ListN.{length-set, length}
 use mathlib.Core.Path.{_≡_, refl}
 use Prim.Native.Nat.{_-_, _≤_}
