@@ -1,8 +1,10 @@
 // Bodies and literals. In order: comments passed over; the operator that is due; a body and a literal, each by the other.
 ghost use mathlib.Core.Path.{_≡_};
+ghost use mathlib.Core.Bool.{true};
 ghost use Rattle.tokens.specs.declared.Refusal.the-variants.{NotAllowed};
 ghost use Rattle.tokens.specs.Token.{tokenAt};
 ghost use Rattle.machine.specs.declared.Went.the-variants.{Stop};
+ghost use Rattle.machine.proofs.Comments.{NoComment};
 ghost use Rattle.machine.specs.Skeleton.{solid, dueBy, due, bodyAt, literalAt};
 use crate::roles;
 use machine::Passed;
@@ -10,8 +12,18 @@ use machine::Role;
 use machine::Went;
 use tokens::Read;
 
-// The first place from `at` on where no comment stands.
-pub fn past_comments(s: &[u8], at: usize) -> usize
+// By its first byte alone, no comment stands at `at`.
+fn is_solid(s: &[u8], at: usize) -> bool
+    ensures { λ r. ⌜ (r ≡ true → NoComment (tokenAt (now (s .entry)) at)) ⌝ }
+{
+    if s.len() <= at {
+        return true;
+    }
+    tokens::bits::low5(s[at]) != 6
+}
+
+// Past comments, each read as a token.
+fn pass_comments(s: &[u8], at: usize) -> usize
     ensures { λ r. ⌜ r ≡ solid (now (s .entry)) at ⌝ }
 {
     let mut p = at;
@@ -40,6 +52,16 @@ pub fn past_comments(s: &[u8], at: usize) -> usize
             }
         }
     }
+}
+
+// The first place from `at` on where no comment stands. Most often that is `at`, and then one byte tells.
+pub fn past_comments(s: &[u8], at: usize) -> usize
+    ensures { λ r. ⌜ r ≡ solid (now (s .entry)) at ⌝ }
+{
+    if is_solid(s, at) {
+        return at;
+    }
+    pass_comments(s, at)
 }
 
 fn not_allowed(place: usize) -> Went

@@ -7,7 +7,6 @@ use borrow.Author.Needs.{needs}
 use Rattle.book.proofs.arguments.count.Statement.{statement}
 use Rattle.book.proofs.arguments.count.Tie as tie
 
-
 pub count-spec : {M : Type 1} → statement M
 count-spec =
     tie.close

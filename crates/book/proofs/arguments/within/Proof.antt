@@ -4,7 +4,6 @@ use mir.Facts.{toZ-ofZ}
 use Rattle.book.proofs.arguments.within.Statement.{statement}
 use Rattle.book.proofs.arguments.within.Tie as tie
 
-
 pub within-spec : {M : Type 1} → statement M
 within-spec =
     tie.close

@@ -6,7 +6,6 @@ use borrow.Author.Needs.{needs}
 use Rattle.book.proofs.books.print_one.Statement.{statement}
 use Rattle.book.proofs.books.print_one.Tie as tie
 
-
 pub print-one-spec : {M : Type 1} → statement M
 print-one-spec =
     tie.close

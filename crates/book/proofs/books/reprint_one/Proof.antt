@@ -5,7 +5,6 @@ use borrow.Author.Needs.{needs}
 use Rattle.book.proofs.books.reprint_one.Statement.{statement}
 use Rattle.book.proofs.books.reprint_one.Tie as tie
 
-
 pub reprint-one-spec : {M : Type 1} → statement M
 reprint-one-spec =
     tie.close

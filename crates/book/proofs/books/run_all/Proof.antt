@@ -5,7 +5,6 @@ use borrow.Author.Needs.{needs}
 use Rattle.book.proofs.books.run_all.Statement.{statement}
 use Rattle.book.proofs.books.run_all.Tie as tie
 
-
 pub run-all-spec : {M : Type 1} → statement M
 run-all-spec =
     tie.close

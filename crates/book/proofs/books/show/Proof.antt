@@ -4,7 +4,6 @@ use borrow.Author.Needs.{needs}
 use Rattle.book.proofs.books.show.Statement.{statement}
 use Rattle.book.proofs.books.show.Tie as tie
 
-
 pub show-spec : {M : Type 1} → statement M
 show-spec =
     tie.close

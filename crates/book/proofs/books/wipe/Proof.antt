@@ -5,7 +5,6 @@ use borrow.Author.Needs.{needs}
 use Rattle.book.proofs.books.wipe.Statement.{statement}
 use Rattle.book.proofs.books.wipe.Tie as tie
 
-
 pub wipe-spec : {M : Type 1} → statement M
 wipe-spec =
     tie.close

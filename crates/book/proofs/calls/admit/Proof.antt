@@ -6,7 +6,6 @@ use borrow.Author.Needs.{needs}
 use Rattle.book.proofs.calls.admit.Statement.{statement}
 use Rattle.book.proofs.calls.admit.Tie as tie
 
-
 pub admit-spec : {M : Type 1} → statement M
 admit-spec =
     tie.close

@@ -11,7 +11,6 @@ use borrow.Author.Needs.{needs}
 use Rattle.book.proofs.calls.reprint.Statement.{statement}
 use Rattle.book.proofs.calls.reprint.Tie as tie
 
-
 pub reprint-spec : {M : Type 1} → statement M
 reprint-spec =
     tie.close

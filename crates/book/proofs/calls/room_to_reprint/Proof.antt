@@ -6,7 +6,6 @@ use Rattle.machine.specs.Limits.{scratchSize, rowsSize}
 use Rattle.book.proofs.calls.room_to_reprint.Statement.{statement}
 use Rattle.book.proofs.calls.room_to_reprint.Tie as tie
 
-
 pub room-to-reprint-spec : {M : Type 1} → statement M
 room-to-reprint-spec =
     tie.close

@@ -6,7 +6,6 @@ use Rattle.machine.specs.Limits.{scratchSize}
 use Rattle.book.proofs.calls.room_to_run.Statement.{statement}
 use Rattle.book.proofs.calls.room_to_run.Tie as tie
 
-
 pub room-to-run-spec : {M : Type 1} → statement M
 room-to-run-spec =
     tie.close

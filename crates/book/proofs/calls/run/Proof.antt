@@ -9,7 +9,6 @@ use borrow.Author.Needs.{needs}
 use Rattle.book.proofs.calls.run.Statement.{statement}
 use Rattle.book.proofs.calls.run.Tie as tie
 
-
 pub run-spec : {M : Type 1} → statement M
 run-spec =
     tie.close

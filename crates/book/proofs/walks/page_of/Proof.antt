@@ -4,7 +4,6 @@ use borrow.Author.Needs.{needs}
 use Rattle.book.proofs.walks.page_of.Statement.{statement}
 use Rattle.book.proofs.walks.page_of.Tie as tie
 
-
 pub page-of-spec : {M : Type 1} → statement M
 page-of-spec =
     tie.close

@@ -4,7 +4,6 @@ use borrow.Author.Needs.{needs}
 use Rattle.book.proofs.walks.page_row.Statement.{statement}
 use Rattle.book.proofs.walks.page_row.Tie as tie
 
-
 pub page-row-spec : {M : Type 1} → statement M
 page-row-spec =
     tie.close

@@ -4,7 +4,6 @@ use borrow.Author.Needs.{needs}
 use Rattle.book.proofs.walks.preamble_of.Statement.{statement}
 use Rattle.book.proofs.walks.preamble_of.Tie as tie
 
-
 pub preamble-of-spec : {M : Type 1} → statement M
 preamble-of-spec =
     tie.close
