@@ -1,8 +1,6 @@
 /* write and read back: bytes and tables put together by hand, refusals with their index or place, and what is written read back. */
 #include "test.h"
 
-#include <string.h>
-
 /* ---- calls */
 
 static void writes(const char *what, bytes list, bytes text, bytes written, size_t spare)
@@ -66,13 +64,6 @@ static void add_token(bytes *list, int32_t kind, int32_t a, int32_t b, int32_t c
         uint8_t byte = (uint8_t)(words[i / 4] >> 8 * (i % 4));
         add_bytes(list, &byte, 1);
     }
-}
-
-static bytes ascii(const char *s)
-{
-    bytes b = {0};
-    add_bytes(&b, s, strlen(s));
-    return b;
 }
 
 /* a list of every kind, its texts and its written form, in exact and in longer tables, and one byte short of each */

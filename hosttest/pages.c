@@ -99,11 +99,11 @@ static void every_kind(void)
     words w = {.count = 0};
 
     push(&w, 5);
-    push_value(&w, 1, -1, 2, 0, 0);  /* number */
-    push_value(&w, 2, 1, 4, 2, 0);   /* identifier: the page, its token's first byte, length */
-    push_value(&w, 3, 0, 0, 2, 0);   /* vector: first cell, lower bound, count */
-    push_value(&w, 4, 1, 16, 0, 2);  /* operator: the page, just after its {, length, first cell of its frame */
-    push_value(&w, 5, 0, 0, 0, 0);   /* mark */
+    push_value(&w, 1, -1, 2, 0, 0); /* number */
+    push_value(&w, 2, 1, 4, 2, 0);  /* identifier: the page, its token's first byte, length */
+    push_value(&w, 3, 0, 0, 2, 0);  /* vector: first cell, lower bound, count */
+    push_value(&w, 4, 1, 16, 0, 2); /* operator: the page, just after its {, length, first cell of its frame */
+    push_value(&w, 5, 0, 0, 0, 0);  /* mark */
     push(&w, 50);
     push_zeros(&w, 49);
     push_value(&w, 1, 3, 1, 0, 0);
@@ -138,9 +138,32 @@ static void largest_sections(void)
     page_is("the largest sections", m, 128, (int32_t[]){PZ_FINISHED, 0, 128, 1024}, &w);
 }
 
+/* the last row ends where the rows end */
+static void most_pages(void)
+{
+    bytes m = master("A0 66 A0 6A A0 6B");
+    int32_t rows[4 * (PZ_PAGES_MAX + 1)] = {PZ_FINISHED, 0, 0, 0};
+    words last = numbers(1, (int32_t[]){PZ_PAGES_MAX});
+
+    for (int n = 1; n <= PZ_PAGES_MAX; n++) {
+        add(&m, "A0 6A");
+        add_number(&m, n);
+        add(&m, "A0 6B");
+        rows[4 * n] = PZ_FINISHED;
+        rows[4 * n + 2] = 1;
+    }
+    add(&m, "A0 67");
+    check("512 pages", "rows", sizeof rows == PZ_ROWS);
+    runs("512 pages", m, 1, rows, PZ_PAGES_MAX, 0);
+    runs("512 pages", m, 1, rows, PZ_PAGES_MAX, 1);
+    reprints("page 512", m, 1, PZ_PAGES_MAX, rows + 4 * PZ_PAGES_MAX, &last, 0);
+    release(&m);
+}
+
 void test_pages(void)
 {
     simple_pages();
     every_kind();
     largest_sections();
+    most_pages();
 }

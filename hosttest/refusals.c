@@ -29,8 +29,7 @@ static void reprint_refused(const char *what, bytes m, lent l, uint32_t no, uint
     table scratch = lend(l.scratch), rows = lend(l.rows), sections = lend(l.sections);
     if (left == CLEARED)
         want_zero(&scratch, PZ_SCRATCH);
-    check_answer(what,
-                 pz_reprint(m.at, m.size, l.allowance, l.page, scratch.now, l.scratch, rows.now, l.rows, sections.now, l.sections),
+    check_answer(what, pz_reprint(m.at, m.size, l.allowance, l.page, scratch.now, l.scratch, rows.now, l.rows, sections.now, l.sections),
                  no, place);
     check_table(what, "reprint: scratch", &scratch);
     check_table(what, "reprint: rows", &rows);
@@ -77,19 +76,11 @@ static bytes too_long(void)
     return m;
 }
 
-static bytes without_header(const char *hex)
-{
-    bytes m = {0};
-    add(&m, hex);
-    return m;
-}
-
 static void wrong_masters(void)
 {
-    all_refuse("1: no bytes, by NULL", without_header(""), PZ_BAD_HEADER, 0);
-    all_refuse("1: 20 bytes of the header", without_header("49 6E 74 65 72 70 72 65 73 73 2F 58 65 72 6F 78 2F 33 2E 30"), PZ_BAD_HEADER, 0);
-    all_refuse("1: another header", without_header("49 6E 74 65 72 70 72 65 73 73 2F 58 65 72 6F 78 2F 32 2E 31 20 A0 66 A0 6A A0 6B A0 67"),
-               PZ_BAD_HEADER, 0);
+    all_refuse("1: no bytes, by NULL", ascii(""), PZ_BAD_HEADER, 0);
+    all_refuse("1: 20 bytes of the header", ascii("Interpress/Xerox/3.0"), PZ_BAD_HEADER, 0);
+    all_refuse("1: another header", ascii("Interpress/Xerox/2.1 "), PZ_BAD_HEADER, 0);
     all_refuse("2: BEGIN is due", master(""), PZ_CUT_OFF, 21);
     all_refuse("2: a body is due", master("A0 66"), PZ_CUT_OFF, 23);
     all_refuse("2: half an operator", master("A0"), PZ_CUT_OFF, 21);

@@ -94,11 +94,16 @@ void release(bytes *b)
     *b = (bytes){0};
 }
 
+bytes ascii(const char *text)
+{
+    bytes b = {0};
+    add_bytes(&b, text, strlen(text));
+    return b;
+}
+
 bytes master(const char *hex)
 {
-    static const char header[] = "Interpress/Xerox/3.0 ";
-    bytes b = {0};
-    add_bytes(&b, header, sizeof header - 1);
+    bytes b = ascii("Interpress/Xerox/3.0 ");
     add(&b, hex);
     return b;
 }

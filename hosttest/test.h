@@ -23,8 +23,8 @@ void add_number(bytes *b, int n);                        /* a short number */
 void add_string(bytes *b, uint8_t element, size_t size); /* a string of equal elements */
 void release(bytes *b);
 
-/* the header, then these bytes */
-bytes master(const char *hex);
+bytes ascii(const char *text);
+bytes master(const char *hex); /* the header, then these bytes */
 
 /* ---- lent tables: filled with a pattern, at an odd address, up to the end of their allocation; an empty one is NULL */
 
