@@ -1,4 +1,5 @@
--- An answer told of an outcome that keeps a promise: where a number was handed on as an i64, that number. Assumes nothing.
+-- An answer that tells an outcome of `run` or `reprint`. A callee's promise is of a number as it comes out of 64 bits, which is the one that
+-- was put in. Assumes nothing.
 use Prim.Native.Nat.{ℕ}
 use mathlib.Core.Path.{_≡_}
 use mathlib.Core.List.{List}
