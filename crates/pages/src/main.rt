@@ -15,6 +15,7 @@ use skeleton::pages::PLACES;
 use tokens::Outcome;
 use tokens::refusals::answer_number;
 use tokens::refusals::answer_value;
+use tokens::refusals::refused;
 
 // The longest master.
 const LONGEST: usize = 32768;
@@ -22,20 +23,22 @@ const LONGEST: usize = 32768;
 // The steps that each body may take.
 const ALLOWANCE: i64 = 100000;
 
-// The bytes of the tables: scratch, rows, sections; of a row, a count, a value, a frame.
+// The bytes of scratch.
 const SCRATCH: usize = 48000;
 
+// The bytes of the rows, and of one.
 const ROWS: usize = 8208;
 
-const SECTIONS: usize = 24052;
-
 const ROW: usize = 16;
+
+// The bytes of the sections, and of what they hold: a count, a value, a frame of 50.
+const SECTIONS: usize = 24052;
 
 const COUNT: usize = 4;
 
 const VALUE: usize = 20;
 
-const FRAME: usize = 1000;
+const FRAME: usize = 50 * VALUE;
 
 // The most bodies: the preamble and 512 pages.
 const BODIES: usize = PLACES / 2;
@@ -193,6 +196,9 @@ fn put_bodies(
 }
 
 fn put_listing(out: &mut [u8; BUFFER], s: &[u8]) -> usize {
+    if LONGEST < s.len() {
+        return put_refusal(out, 0, refused(tokens::Refusal::TooLong, 0));
+    }
     let mut scratch = [0u8; SCRATCH];
     let mut rows = [0u8; ROWS];
     let mut sections = [0u8; SECTIONS];
@@ -217,12 +223,6 @@ fn main() {
     let mut input = [0u8; LONGEST + 1];
     let mut out = [0u8; BUFFER];
     let n = io::read_full(STDIN_FILENO, &mut input);
-    if n > LONGEST {
-        let too_long = tokens::refusals::refused(tokens::Refusal::TooLong, 0);
-        let p = put_refusal(&mut out, 0, too_long);
-        texts::finish(&out, p);
-        return;
-    }
     let p = put_listing(&mut out, &input[..n]);
     texts::finish(&out, p);
 }
