@@ -9,14 +9,15 @@ A line of a source is a case: `name`; `call`, one of those below; `in`; `want`. 
   ["reprint", ALLOWANCE, PAGE]  in: the bytes in hex. want: {"row": [four words], "sections": [words up to the last value]}.
   ["pages"]     in: the bytes in hex. want: the listing of the run with allowance 100000. tools/check_listing.py runs these.
 From a case whose call is done come more, by themselves: tables longer than needed, whose rest must stay, and tables one byte short;
-from one reprint that is done, and from its run, also wrong arguments. Every master of a reprint or of a listing is run whole: the
+from one reprint that is done, and from one run, also wrong arguments. Every master of a reprint or of a listing is run whole: the
 rows are those that its listing and its reprints say.
 
 A record of the data file: its own length; call; number and value of the answer; allowance; page; lengths of the three tables lent;
 name; input; text; what is left in each table. Numbers are four bytes, low byte first; a text is its length and its bytes. What is
 left in a table is a text of runs, each a text: how many times, and the bytes that come so often. After the last run the table must
 be as lent, byte by byte."""
-import glob, json, os, re, sys
+import itertools, os, re, sys
+from check_listing import MOST_PAGES, most_pages, sources
 
 ROOT = os.path.join(os.path.dirname(os.path.abspath(__file__)), '..')
 DATA = os.path.join(ROOT, 'crates', 'cases', 'data', 'cases')
@@ -28,7 +29,7 @@ LISTED_STEPS = 100000
 SPARE = 7
 # As in crates/cases/src/main.rt: the byte of a lent table, the longest file, the longest tables.
 LENT = b'\xa5'
-LONGEST = 131072
+LONGEST = 196608
 LONGEST_TABLES = (49152, 16384, 24576)
 
 
@@ -119,18 +120,18 @@ def row_left(page, row):
     return (run_of(16 * page, LENT) if page else b'') + once(words(row))
 
 
+def runs_of(parts):
+    """A run for equal parts that follow each other."""
+    return b''.join(run_of(len(list(equal)), part) for part, equal in itertools.groupby(parts))
+
+
 def sections_left(ns):
-    """The words, those of equal values that follow each other as one run, then zero."""
+    """The words, then zero."""
     out, rest = b'', list(ns)
     while rest:
         count, rest = rest[0], rest[1:]
-        out += once(word(count))
-        values = [words(rest[5 * i:5 * i + 5]) for i in range(count)]
+        out += once(word(count)) + runs_of(words(rest[5 * i:5 * i + 5]) for i in range(count))
         rest = rest[5 * count:]
-        while values:
-            n = next((i for i, v in enumerate(values) if v != values[0]), len(values))
-            out += run_of(n, values[0])
-            values = values[n:]
     zero = SECTIONS - 4 * len(ns)
     return out + (run_of(zero, b'\0') if zero else b'')
 
@@ -191,51 +192,56 @@ def rows_wanted(listing, allowance, reprinted):
     return rows
 
 
-def runs(cases):
-    """A run for each master and allowance of a listing or a reprint; of one that is refused, a reprint of page 0 too."""
-    listings = {case['in']: case for case in cases if case['call'] == ['pages']}
-    wanted = {(given, LISTED_STEPS): case['name'] for given, case in listings.items()}
-    reprinted, refusals = {}, {}
+def asked(cases):
+    """Of every master and allowance of a listing or a reprint: its name, and what the reprints say: the rows by page, or the refusal."""
+    names, rows, refusals = {}, {}, {}
     for case in cases:
-        if case['call'][0] != 'reprint':
+        call, allowance, page = (*case['call'], LISTED_STEPS, 0)[:3]
+        key, refused = (case['in'], allowance), refusal(case['want'])
+        if call not in ('pages', 'reprint') or refused and refused[0] == NO_SUCH_PAGE:
             continue
-        _, allowance, page = case['call']
-        key = (case['in'], allowance)
-        refused = refusal(case['want'])
-        if refused and refused[0] == NO_SUCH_PAGE:
-            continue
-        wanted.setdefault(key, case['name'])
+        names.setdefault(key, case['name'])
         if refused:
             refusals[key] = refused
-        else:
-            reprinted.setdefault(key, {})[page] = case['want']['row']
-    out, sizes, whole = [], (SCRATCH, ROWS), None
-    for (hexed, allowance), name in wanted.items():
-        given, listing = bytes.fromhex(hexed), listings[hexed]['want']
-        refused = refusals.get((hexed, allowance)) or refusal(listing)
+        elif call == 'reprint':
+            rows.setdefault(key, {})[page] = case['want']['row']
+    return [(*key, name, rows.get(key, {}), refusals.get(key)) for key, name in names.items()]
+
+
+def runs(cases):
+    """A run for each of these; of one that is refused, a reprint of page 0 too. The first done with a page has more come from it."""
+    listings = {case['in']: case['want'] for case in cases if case['call'] == ['pages']}
+    out, sizes, whole = [], (SCRATCH, ROWS), False
+    for hexed, allowance, name, reprinted, refused in asked(cases):
+        given, name = bytes.fromhex(hexed), name + '-run'
         if refused:
             left = (scratch_left(refused[0]), b'')
-            out.append(record(RUN, name + '-run', refused, given, b'', sizes, left, allowance))
-            out.append(record(REPRINT, name + '-reprint', refused, given, b'', (*sizes, SECTIONS), left, allowance))
+            out.append(record(RUN, name, refused, given, b'', sizes, left, allowance))
+            out.append(record(REPRINT, name + '-0', refused, given, b'', (*sizes, SECTIONS), left, allowance))
             continue
-        rows = rows_wanted(listing, allowance, reprinted.get((hexed, allowance), {}))
-        done, left = (0, len(rows) - 1), (scratch_left(0), once(b''.join(map(words, rows))))
-        out.append(record(RUN, name + '-run', done, given, b'', sizes, left, allowance))
+        rows = rows_wanted(listings[hexed], allowance, reprinted)
+        done, left = (0, len(rows) - 1), (scratch_left(0), runs_of(map(words, rows)))
+        out.append(record(RUN, name, done, given, b'', sizes, left, allowance))
         if not whole and len(rows) > 1:
-            whole = name + '-run'
-            out.append(record(RUN, whole + '-longer', done, given, b'', tuple(n + SPARE for n in sizes), left, allowance))
-            out += wrong_arguments(RUN, whole, given, sizes, allowance, 0)
+            whole = True
+            longer = tuple(n + SPARE for n in sizes)
+            out.append(record(RUN, name + '-longer', done, given, b'', longer, left, allowance))
+            out += wrong_arguments(RUN, name, given, sizes, allowance, 0)
     one = next(case for case in cases if case['call'][0] == 'reprint' and not refusal(case['want']))
-    return out + from_reprint(one, len(rows_listed(listings[one['in']]['want'])) - 1)
+    return out + from_reprint(one, len(rows_listed(listings[one['in']])) - 1)
 
 
 CALLS = {'readback': read_back, 'write': write, 'load': load, 'reprint': reprint, 'pages': lambda case: []}
 
 
+def last_page():
+    """A reprint of the last page that there may be: its row ends where the rows end."""
+    want = {'row': [1, 0, 0, 0], 'sections': [0, 50, *[1, 0, 1, 0, 0] * 50, 0]}
+    return {'name': 'last-page', 'call': ['reprint', LISTED_STEPS, MOST_PAGES], 'in': most_pages()['in'], 'want': want}
+
+
 def made():
-    cases = []
-    for source in sorted(glob.glob(os.path.join(ROOT, 'tools', 'cases', '*.jsonl'))):
-        cases += map(json.loads, open(source, encoding='utf-8'))
+    cases = [*sources(), most_pages(), last_page()]
     data = b''.join(b''.join(CALLS[case['call'][0]](case)) for case in cases) + b''.join(runs(cases))
     if len(data) > LONGEST:
         sys.exit('the data file is longer than the program reads')

@@ -8,26 +8,30 @@ use tokens::Outcome;
 // What every byte of a lent table holds before a call.
 const LENT: u8 = 165;
 
-// Longer than every table here.
+// A place past the end of every table here.
 const WRONG: usize = 65536;
 
-// Where the numbers of a record stand, and its texts.
+// A record has first these numbers, at these places: its call;
 const CALL: usize = 0;
 
+// number and value of the answer;
 const NUMBER: usize = 4;
 
 const VALUE: usize = 8;
 
+// the arguments;
 const ALLOWANCE: usize = 12;
 
 const PAGE: usize = 16;
 
+// the lengths of the tables.
 const FIRST: usize = 20;
 
 const SECOND: usize = 24;
 
 const THIRD: usize = 28;
 
+// Where its texts begin.
 const TEXTS: usize = 32;
 
 // The word at a place, 0 past the end.
@@ -145,10 +149,10 @@ fn after_bytes(lent: &[u8], from: usize, wanted: &[u8]) -> usize {
 
 // The place after a run that must stand at `from`: how many times, then the bytes that come so often.
 fn after_run(lent: &[u8], from: usize, run: &[u8]) -> usize {
-    let times = number_at(run, 0);
     if run.len() < 4 {
         return WRONG;
     }
+    let times = number_at(run, 0);
     let bytes = part(run, 4, run.len() - 4);
     let mut p = from;
     let mut k: usize = 0;
@@ -280,7 +284,7 @@ fn main() {
         os::fail(path);
         return;
     }
-    let mut bytes = [0u8; 131072];
+    let mut bytes = [0u8; 196608];
     let n = io::read_full(file, &mut bytes);
     libc::close(file);
     let mut first = [0u8; 49152];
