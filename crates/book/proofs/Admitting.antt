@@ -6,7 +6,7 @@ use mathlib.Core.Bool.{Bool, true, false, _&&_, false≢true}
 use mathlib.Core.List.{List}
 use lib.Dec.{T}
 use lib.IntN.{ℤ, pos, negsuc, natAbs}
-use lib.Signed.{leZ, nonNeg}
+use lib.Signed.{leZ, nonNeg, pos-natAbs}
 use lib.ListN.{length}
 use borrow.Author.Tests.{lt-leb, le-leb, leb-true}
 use Rattle.numbers.proofs.Cond.{both}
@@ -31,17 +31,17 @@ not-negative (pos n) e = tt
 not-negative (negsuc n) e = absurd (false≢true e)
 
 pub natural-is : (z : ℤ) → leZ (pos 0) z ≡ true → z ≡ pos (natAbs z)
-natural-is (pos n) e = refl
-natural-is (negsuc n) e = absurd (false≢true e)
+natural-is z e = sym (pos-natAbs z (not-negative z e))
 
 -- a number of steps that may be allowed
-pub steps-fit : (z : ℤ) → leZ (pos 1) z && leZ z (pos mostSteps) ≡ true → (leZ (pos 0) z ≡ true) × (natAbs z ≤ mostSteps)
+pub steps-fit : (z : ℤ) → allowed z ≡ true → (leZ (pos 0) z ≡ true) × (natAbs z ≤ mostSteps)
+unfolding allowed
 steps-fit (pos n) e = (le-leb 0 n (omega arith), leb-true n mostSteps (both (leZ (pos 1) (pos n)) _ e .1))
 steps-fit (negsuc n) e = absurd (false≢true e)
 
--- the same asked of the number as it stands in memory
-pub asked : {x z : ℤ} {r b : Bool} → x ≡ z → r ≡ (leZ (pos 1) x && leZ x (pos mostSteps)) → r ≡ b → leZ (pos 1) z && leZ z (pos mostSteps) ≡ b
-asked e f g = rw (← e) (sym f ∙ g)
+-- what was asked of numbers as they stand in memory holds of the numbers
+pub asked : {x z h k : ℤ} {r b : Bool} (low : ℤ) → x ≡ z → h ≡ k → r ≡ (leZ low x && leZ x h) → r ≡ b → leZ low z && leZ z k ≡ b
+asked low e f g i = rw (← e, ← f) (sym g ∙ i)
 
 -- ---- refusals
 
@@ -72,15 +72,15 @@ module _ (s : List ℕ) (allowance : ℤ) (enough : Bool) (t : List ℕ) where
   unfolding admitted
   too-short r e h k = refuses TableTooShort 0 r e (λ rest. rw (le-leb (length s) longest h, k))
 
-  pub not-allowed : (r : Outcome) → r ≡ Refused BadAllowance 0 → length s ≤ longest → enough ≡ true → leZ (pos 1) allowance && leZ allowance (pos mostSteps) ≡ false → Admitted s allowance enough t r
-  unfolding admitted allowed
+  pub not-allowed : (r : Outcome) → r ≡ Refused BadAllowance 0 → length s ≤ longest → enough ≡ true → allowed allowance ≡ false → Admitted s allowance enough t r
+  unfolding admitted
   not-allowed r e h k a = refuses BadAllowance 0 r e (λ rest. rw (le-leb (length s) longest h, k, a))
 
   -- ---- a master that may run
 
-  module _ (h : length s ≤ longest) (k : enough ≡ true) (a : leZ (pos 1) allowance && leZ allowance (pos mostSteps) ≡ true) where
+  module _ (h : length s ≤ longest) (k : enough ≡ true) (a : allowed allowance ≡ true) where
     judged : (rest : List (List ℕ) → Verdict) → admitted s allowance enough rest ≡ onSound s (skeletonOf s) rest
-    unfolding admitted allowed
+    unfolding admitted
     judged rest = rw (le-leb (length s) longest h, k, a)
 
     by-skeleton : (x : Skeleton) → skeletonOf s ≡ x → (r : Outcome) → Surveyed s t x r → Admitted s allowance enough t r

@@ -26,7 +26,7 @@ use Rattle.machine.specs.Promise.{accepted, unfinished, halted, finished, over,
 use Rattle.state.specs.declared.Registers.{Registers}
 use Rattle.state.specs.Layout.{abs}
 use Rattle.skeleton.specs.Spans.{Placed}
-use Rattle.book.specs.Ran.{Preambled, Ready, Laid, Goes, Admitted, RanAll}
+use Rattle.book.specs.Ran.{Preambled, Ready, Holds, Goes, Admitted, RanAll}
 use Rattle.book.proofs.Admitting.{natural-is, steps-fit}
 use Rattle.book.proofs.Walking.{rows-long}
 
@@ -115,8 +115,8 @@ pub stays : {s t : List ℕ} {x z : ℤ} {b c : Bool} {r : Outcome} {w : Refusal
 stays e f d g = rw (e, f, g) at d
 
 module _ {s t : List ℕ} {z : ℤ} {b : Bool} {last : ℕ} (g : Goes s z b t last) where
-  pub laid : 1026 ≤ length t → Laid s t last
-  laid l = record { wide = l; bodies = g .bodies; placed = g .placed; many = g .many }
+  pub laid : 1026 ≤ length t → Holds s t last
+  laid l = record { wide = l; bodies = g .bodies; placed = g .placed; there = omega (arith, g .many) }
 
   pub few-steps : {x : ℤ} {a : ℕ} → x ≡ z → a ≡ natAbs x → a ≤ mostSteps
   few-steps e f = rw (f, e) (steps-fit z (g .steps) .1)

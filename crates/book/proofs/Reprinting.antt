@@ -17,7 +17,7 @@ use Rattle.tokens.specs.declared.Refusal.{Refusal}
 use Rattle.tokens.specs.declared.Refusal.the-variants.{PreambleUnfinished, NoSuchPage}
 use Rattle.tokens.specs.declared.Outcome.{Outcome}
 use Rattle.tokens.specs.declared.Outcome.the-variants.{Done, Refused}
-use Rattle.machine.specs.Limits.{mostPages, scratchSize, rowsSize, sectionsSize}
+use Rattle.machine.specs.Limits.{scratchSize, rowsSize, sectionsSize}
 use Rattle.machine.specs.Step.{outcome}
 use Rattle.machine.specs.Page.{Result, preambleResult, resultOf, resultAt, rowBytes, sectionBytes}
 use Rattle.machine.specs.Promise.{Verdict, accepted, unfinished, halted, finished, over, spliced, scratchLeaves, paged, reprintVerdict, reprintAnswer, rowLeaves, sectionsLeaves, Reprints}
@@ -68,14 +68,6 @@ module _ (s t : List ℕ) (bodies : List (List ℕ)) (a : ℕ) (w : List ℕ) (q
 pub shows : (x : Result) (page : ℕ) (rows rows′ sections sections′ : List ℕ) → rows′ ≡ sets rows (16 * page) (rowBytes x) → sections′ ≡ over (sectionBytes x) sections → Shown x page rows rows′ sections sections′
 shows x page rows rows′ sections sections′ e f = record { row = e; sections-are = f }
 
--- what a page asks, of the places
-pub page-asks : {s t : List ℕ} {page : ℕ} → Holds s t page → (getD t 0 0 ≤ getD t 1 0) × (getD t 1 0 ≤ length s) × (getD t (2 * page) 0 ≤ getD t (2 * page + 1) 0) × (getD t (2 * page + 1) 0 ≤ length s) × (page ≤ mostPages)
-page-asks {page = page} h =
-    let l = h .placed in
-    let x = l .each 0 (l .some) in
-    let y = l .each page (h .there) in
-    (x .ordered, x .inside, y .ordered, y .inside, omega (arith, l .few, h .there))
-
 -- ---- the promise of `reprint`
 
 -- a page that is there, or is not
@@ -122,10 +114,6 @@ module _ (s : List ℕ) (z page : ℤ) (scratch rows sections : List ℕ) where
           rows-leaves = rw (v, ← za, ← zn) (x .rows-are);
           sections-leaves = rw (v, ← za, ← zn) (x .sections-are);
         }
-
--- the page asked for, as it stands in memory
-pub page-asked : {x z h : ℤ} {last : ℕ} {r b : Bool} → x ≡ z → h ≡ pos last → r ≡ (leZ (pos 0) x && leZ x h) → r ≡ b → leZ (pos 0) z && leZ z (pos last) ≡ b
-page-asked e k f g = rw (← e, ← k) (sym f ∙ g)
 
 pub page-held : {s t : List ℕ} {z : ℤ} {b : Bool} {last n : ℕ} (page : ℤ) → 1026 ≤ length t → Goes s z b t last → leZ (pos 0) page && leZ page (pos last) ≡ true → n ≡ natAbs page → Holds s t n
 page-held {last = last} {n = n} page l g e f = record { wide = l; bodies = g .bodies; placed = g .placed; there = page-below page last (length (g .bodies)) n (g .many) f e }

@@ -8,9 +8,10 @@ use lib.ListN.{length, getD, length-append}
 use lib.Seq.{slice, sets}
 use Rattle.table.specs.Words.{wordBytes}
 use Rattle.table.proofs.Stores.{sets-append}
+use Rattle.machine.specs.Limits.{mostPages}
 use Rattle.machine.specs.Page.{Result, preambleOf, pageResult, resultAt, bytesIn, rowWords, rowBytes, rowsFrom}
 use Rattle.skeleton.specs.Spans.{Placed}
-use Rattle.book.specs.Ran.{Ready, Rowed, Laid}
+use Rattle.book.specs.Ran.{Ready, Rowed, Holds}
 
 -- ---- rows, one more at the end
 
@@ -53,6 +54,14 @@ pub record Walked (s t : List ℕ) (last used a : ℕ) (w₀ rows₀ w rows : Li
 pub walk-starts : (s t : List ℕ) (last used a : ℕ) (w rows : List ℕ) → Ready (slice (getD t 0 0) (getD t 1 0) s) a used w → Walked s t last used a w rows w rows 1
 walk-starts s t last used a w rows r = record { some = omega arith; most = omega arith; ready = r; w-long = refl; rows-long = refl; rows-are = λ bodies b p m e. e }
 
+-- what a page asks, of the places
+pub page-asks : {s t : List ℕ} (last page : ℕ) → Holds s t last → page ≤ last → (getD t 0 0 ≤ getD t 1 0) × (getD t 1 0 ≤ length s) × (getD t (2 * page) 0 ≤ getD t (2 * page + 1) 0) × (getD t (2 * page + 1) 0 ≤ length s) × (page ≤ mostPages)
+page-asks last page h le =
+    let l = h .placed in
+    let x = l .each 0 (l .some) in
+    let y = l .each page (omega (arith, h .there)) in
+    (x .ordered, x .inside, y .ordered, y .inside, omega (arith, l .few, h .there))
+
 -- the bytes of a page by its place
 pub result-at : (s t : List ℕ) (a n : ℕ) (bodies : List (List ℕ)) → 1 ≤ n → n < length bodies → Placed s t bodies
     → resultAt a bodies n ≡ pageResult a (slice (getD t 0 0) (getD t 1 0) s) (slice (getD t (2 * n) 0) (getD t (2 * n + 1) 0) s)
@@ -60,18 +69,14 @@ unfolding resultAt preambleOf
 result-at s t a zero bodies h l p = absurd (omega arith)
 result-at s t a (suc n) bodies h l p = rw (p .each 0 (omega arith) .is, p .each (suc n) l .is)
 
-module _ (s t : List ℕ) (last used a : ℕ) (w₀ rows₀ w rows : List ℕ) (n : ℕ) (l : Laid s t last) (h : n ≤ last) (k : Walked s t last used a w₀ rows₀ w rows n) where
+module _ (s t : List ℕ) (last used a : ℕ) (w₀ rows₀ w rows : List ℕ) (n : ℕ) (l : Holds s t last) (h : n ≤ last) (k : Walked s t last used a w₀ rows₀ w rows n) where
   abbrev at : ℕ → ℕ
   at i = getD t i 0
 
   -- what a page and its row ask
   pub row-asks : length s ≤ 16777215 → a ≤ 1000000 → 8208 ≤ length rows₀
       → Ready (slice (at 0) (at 1) s) a used w × (length s ≤ 16777215) × (at 0 ≤ at 1) × (at 1 ≤ length s) × (at (2 * n) ≤ at (2 * n + 1)) × (at (2 * n + 1) ≤ length s) × (a ≤ 1000000) × (16 * n + 16 ≤ length rows)
-  row-asks f g r =
-      let p = l .placed in
-      let x = p .each 0 (omega (arith, l .many)) in
-      let y = p .each n (omega (arith, l .many)) in
-      (k .ready, f, x .ordered, x .inside, y .ordered, y .inside, g, omega (arith, p .few, l .many, k .rows-long))
+  row-asks f g r = let p = page-asks last n l h in (k .ready, f, p .0, p .1, p .2, p .3, g, omega (arith, p .4, k .rows-long))
 
   pub walk-goes : (w′ rows′ : List ℕ) → Rowed (slice (at 0) (at 1) s) (slice (at (2 * n)) (at (2 * n + 1)) s) a used n w′ rows rows′ → length w′ ≡ length w → length rows′ ≡ length rows → Walked s t last used a w₀ rows₀ w′ rows′ (n + 1)
   walk-goes w′ rows′ r e f = record {

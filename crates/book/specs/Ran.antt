@@ -1,10 +1,9 @@
 -- What the preamble and a page leave in the table, and a whole master: for contracts of inner functions alone. Assumes nothing.
 use Prim.Native.Nat.{ℕ, _+_, _*_, _<_, _≤_}
 use mathlib.Core.Path.{_≡_}
-use mathlib.Core.Bool.{Bool, true, _&&_}
+use mathlib.Core.Bool.{Bool, true}
 use mathlib.Core.List.{List}
 use lib.IntN.{ℤ, pos}
-use lib.Signed.{leZ}
 use lib.ListN.{length, replicate}
 use lib.Seq.{sets}
 use Rattle.table.specs.Slots.{slots}
@@ -13,8 +12,8 @@ use Rattle.tokens.specs.Format.{longest}
 use Rattle.tokens.specs.declared.Refusal.{Refusal}
 use Rattle.tokens.specs.declared.Outcome.{Outcome}
 use Rattle.tokens.specs.declared.Outcome.the-variants.{Done, Refused}
-use Rattle.machine.specs.Limits.{mostPages, mostSteps, scratchSize, mostCells}
-use Rattle.machine.specs.Promise.{Verdict, halted, admitted, finished, over, runAnswer, rowsLeaves, reprintAnswer, rowLeaves, sectionsLeaves}
+use Rattle.machine.specs.Limits.{mostPages, scratchSize, mostCells}
+use Rattle.machine.specs.Promise.{Verdict, halted, allowed, admitted, finished, over, runAnswer, rowsLeaves, reprintAnswer, rowLeaves, sectionsLeaves}
 use Rattle.skeleton.specs.Spans.{Placed}
 use Rattle.machine.specs.Page.{Result, preambleEnd, pageResult, rowBytes, sectionBytes}
 use Rattle.literals.specs.Names.{both}
@@ -51,18 +50,18 @@ pub record Rowed (pre body : List ℕ) (allowance used n : ℕ) (w′ rows rows�
 
 -- ---- a whole master
 
--- a table of places, and pages 1 to `last`
-pub record Laid (s t : List ℕ) (last : ℕ) : Type 0 where
+-- a table of places, and in it the body of that number and those before
+pub record Holds (s t : List ℕ) (page : ℕ) : Type 0 where
   pub wide : 2 * mostPages + 2 ≤ length t
   pub bodies : List (List ℕ)
   pub placed : Placed s t bodies
-  pub many : length bodies ≡ last + 1
+  pub there : page < length bodies
 
 -- a master that may run, with its last page's number: its bodies stand where t says, and the verdict is by them
 pub record Goes (s : List ℕ) (allowance : ℤ) (enough : Bool) (t : List ℕ) (last : ℕ) : Type 0 where
   pub short : length s ≤ longest
   pub tables : enough ≡ true
-  pub steps : leZ (pos 1) allowance && leZ allowance (pos mostSteps) ≡ true
+  pub steps : allowed allowance ≡ true
   pub bodies : List (List ℕ)
   pub placed : Placed s t bodies
   pub many : length bodies ≡ last + 1
@@ -80,13 +79,6 @@ pub record RanAll (allowance : ℕ) (bodies : List (List ℕ)) (w′ rows rows�
   pub rows-are : rows′ ≡ rowsLeaves (pos allowance) (finished (pos allowance) bodies) rows
 
 -- ---- one body of a master
-
--- a table of places, and a body of that number
-pub record Holds (s t : List ℕ) (page : ℕ) : Type 0 where
-  pub wide : 2 * mostPages + 2 ≤ length t
-  pub bodies : List (List ℕ)
-  pub placed : Placed s t bodies
-  pub there : page < length bodies
 
 -- a result's row and sections
 pub record Shown (x : Result) (page : ℕ) (rows rows′ sections sections′ : List ℕ) : Type 0 where

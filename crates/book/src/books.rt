@@ -8,7 +8,7 @@ ghost use Rattle.machine.specs.Limits.{scratchSize};
 ghost use Rattle.machine.specs.Page.{resultOf, resultAt};
 ghost use Rattle.skeleton.specs.Spans.{Placed};
 ghost use Rattle.state.specs.Layout.{abs, Good};
-ghost use Rattle.book.specs.Ran.{Preambled, Laid, RanAll, Holds, Shown, Reprinted};
+ghost use Rattle.book.specs.Ran.{Preambled, Holds, RanAll, Shown, Reprinted};
 use state::Registers;
 use tokens::Outcome;
 use tokens::refusals::refused;
@@ -36,7 +36,7 @@ pub fn run_all(
     w: &mut [u8],
     rows: &mut [u8],
 ) -> Outcome
-    requires { ⌜ Laid (now s) (now places) last × (length (now s) ≤ 16777215) × (allowance ≤ 1000000) × (length (now w) ≡ 48000) × (8208 ≤ length (now rows)) ⌝ }
+    requires { ⌜ Holds (now s) (now places) last × (length (now s) ≤ 16777215) × (allowance ≤ 1000000) × (length (now w) ≡ 48000) × (8208 ≤ length (now rows)) ⌝ }
     ensures { λ r. ⌜ ((bodies : List (List ℕ)) → Placed (now (s .entry)) (now (places .entry)) bodies → length bodies ≡ last + 1 → RanAll allowance bodies (now (w .exit)) (now (rows .entry)) (now (rows .exit)) r) ⌝ }
 {
     let q = crate::walks::preamble_of(w, s, places[0], places[1], allowance);

@@ -6,7 +6,7 @@ ghost use lib.ListN.{length, getD};
 ghost use lib.Seq.{slice, sets};
 ghost use Rattle.machine.specs.Page.{rowsFrom};
 ghost use Rattle.skeleton.specs.Spans.{Placed};
-ghost use Rattle.book.specs.Ran.{Preambled, Paged, Ready, Rowed, Laid};
+ghost use Rattle.book.specs.Ran.{Preambled, Paged, Ready, Rowed, Holds};
 use state::Registers;
 
 // The preamble of the master s, whose bytes are a to e.
@@ -64,7 +64,7 @@ pub fn every_page(
     allowance: usize,
     rows: &mut [u8],
 )
-    requires { ⌜ Laid (now s) (now places) last × Ready (slice (getD (now places) 0 0) (getD (now places) 1 0) (now s)) allowance used (now w) × (length (now s) ≤ 16777215) × (allowance ≤ 1000000) × (8208 ≤ length (now rows)) ⌝ }
+    requires { ⌜ Holds (now s) (now places) last × Ready (slice (getD (now places) 0 0) (getD (now places) 1 0) (now s)) allowance used (now w) × (length (now s) ≤ 16777215) × (allowance ≤ 1000000) × (8208 ≤ length (now rows)) ⌝ }
     ensures { λ _. ⌜ ((bodies : List (List ℕ)) (t : List ℕ) → Placed (now (s .entry)) (now (places .entry)) bodies → length bodies ≡ last + 1 → now (rows .entry) ≡ sets t 0 (rowsFrom allowance bodies 0 1) → now (rows .exit) ≡ sets t 0 (rowsFrom allowance bodies 0 (last + 1))) ⌝ }
 {
     let a = places[0];

@@ -7,7 +7,7 @@ use mathlib.Core.List.{List, [], _∷_, _++_}
 use Prim.Native.Nat.{ℕ, zero, suc, _+_, _-_, _*_, _<_, _≤_}
 use native.Mathlib.Omega.{arith}
 use lib.Dec.{eqb, leb}
-use lib.ListN.{length, getD, set, length-append, length-set, List·getD-append}
+use lib.ListN.{length, getD, set, length-append, length-map, length-set, List·getD-append}
 use lib.Seq.{slice, getD-set-same, getD-set-other, getD-at}
 use borrow.Author.Tests.{lt-leb, le-leb, leb-true}
 use Rattle.tokens.specs.declared.Read.{Read}
@@ -143,8 +143,7 @@ page-fits s had p next = by-token (tokenAt s p)
 
 pub length-bodies : (s : List ℕ) (spans : List Span) → length (bodiesOf s spans) ≡ length spans
 unfolding bodiesOf
-length-bodies s [] = refl
-length-bodies s (q ∷ spans) = ap suc (length-bodies s spans)
+length-bodies s spans = length-map spans (λ (p : Span). slice (p .start) (p .start + p .len) s)
 
 bodies-more : (s : List ℕ) (spans : List Span) (q : Span) → bodiesOf s (spans ++ (q ∷ [])) ≡ bodiesOf s spans ++ (slice (q .start) (q .start + q .len) s ∷ [])
 unfolding bodiesOf

@@ -1,7 +1,9 @@
 -- `books::print_one` meets its contract. Assumes nothing.
 use native.Mathlib.Omega.{arith}
+use native.Mathlib.Nat.{le-refl}
+use Rattle.book.proofs.Walking.{page-asks}
 use Rattle.book.proofs.Booking.{ready-of}
-use Rattle.book.proofs.Reprinting.{page-asks, shown-first, shown-page}
+use Rattle.book.proofs.Reprinting.{shown-first, shown-page}
 use borrow.Author.Needs.{needs}
 use Rattle.book.proofs.books.print_one.Statement.{statement}
 use Rattle.book.proofs.books.print_one.Tie as tie
@@ -24,7 +26,7 @@ print-one-spec =
     (λ c. search needs)
     (λ c. search needs)
     (λ c. search needs)
-    (λ c κs. let g = page-asks (c .before .before .before .before .before .before .before .before .before .before .before .pre .0) in (ready-of _ _ _ _ (c .before .before .before .before .before .before .before .before .before .before .before .pre .1), c .before .before .before .before .before .before .before .before .before .before .before .pre .2, g .0, g .1, g .2, g .3, c .before .before .before .before .before .before .before .before .before .before .before .pre .3))
+    (λ c κs. let g = page-asks _ _ (c .before .before .before .before .before .before .before .before .before .before .before .pre .0) (le-refl _) in (ready-of _ _ _ _ (c .before .before .before .before .before .before .before .before .before .before .before .pre .1), c .before .before .before .before .before .before .before .before .before .before .before .pre .2, g .0, g .1, g .2, g .3, c .before .before .before .before .before .before .before .before .before .before .before .pre .3))
     (λ c κs. search needs)
     (λ c. search needs)
     (λ c. search needs)

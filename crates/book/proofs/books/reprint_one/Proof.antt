@@ -1,6 +1,8 @@
 -- `books::reprint_one` meets its contract. Assumes nothing.
 use native.Mathlib.Omega.{arith}
-use Rattle.book.proofs.Reprinting.{page-asks, one-unfinished, one-ran}
+use native.Mathlib.Nat.{le-refl}
+use Rattle.book.proofs.Walking.{page-asks}
+use Rattle.book.proofs.Reprinting.{one-unfinished, one-ran}
 use borrow.Author.Needs.{needs}
 use Rattle.book.proofs.books.reprint_one.Statement.{statement}
 use Rattle.book.proofs.books.reprint_one.Tie as tie
@@ -11,7 +13,7 @@ reprint-one-spec =
     (tie.spec
     (λ c. search needs)
     (λ c. search needs)
-    (λ c κs. let g = page-asks (c .before .before .before .before .before .before .before .before .pre .0) in (omega (arith, c .before .before .before .before .before .before .before .before .pre .3), c .before .before .before .before .before .before .before .before .pre .1, g .0, g .1, c .before .before .before .before .before .before .before .before .pre .2))
+    (λ c κs. let g = page-asks _ _ (c .before .before .before .before .before .before .before .before .pre .0) (le-refl _) in (omega (arith, c .before .before .before .before .before .before .before .before .pre .3), c .before .before .before .before .before .before .before .before .pre .1, g .0, g .1, c .before .before .before .before .before .before .before .before .pre .2))
     (λ c κs. search needs)
     (λ c κs. search needs)
     (λ c κs. search needs)
