@@ -19,9 +19,10 @@ use Rattle.machine.proofs.Verdicts.{bodiesIn, ran}
 use Rattle.machine.proofs.Theorems.{reprint-rows, run-rows-rest}
 use Rattle.book.proofs.Corrected.{done-tells, load-tells, runs-done, reprints-done}
 
--- THEOREM (demand 3): the customer's page 40. A book has run and its rows are kept. The corrected master loads with as many pages, its
--- preamble has the same bytes, and so has every page but page k. Then, under the same allowance and in tables that are long enough, the
--- reprint of page k over the kept rows is done, a run of the whole corrected book is done, and the two leave the same rows, every byte.
+-- THEOREM (demand 3): the customer's page 40. A book has run in the table `rows`, and the rows that it left are kept. The corrected master
+-- loads with as many pages, its preamble has the same bytes, and so has every page but page k. Then, under the same allowance, with scratch
+-- and sections long enough, the reprint of page k over the kept rows is done, a run of the whole corrected book in `rows` as it was is done,
+-- and the two leave the same rows, every byte.
 pub corrected-page : {s₁ s₂ : List ℕ} {a : ℤ} {c k : ℕ} {scr₁ scr₁′ scr₂ scr₂′ scr₃ scr₃′ rows rows₁ rows₂ rows₃ sec sec′ : List ℕ} {r₂ r₃ : Outcome}
     → Runs s₁ a scr₁ scr₁′ rows rows₁ (Done c) → Loads s₂ (Done c)
     → getD (bodiesIn s₁) 0 [] ≡ getD (bodiesIn s₂) 0 [] → ((j : ℕ) → j ≢ k → getD (bodiesIn s₁) j [] ≡ getD (bodiesIn s₂) j []) → k ≤ c
