@@ -27,7 +27,7 @@ use Rattle.tokens.specs.Bytes.{valueOf, signedOf}
 use Rattle.tokens.specs.Text.{every, isName}
 use Rattle.tokens.specs.Joined.{continued, pieceAt, joinedAt}
 use Rattle.tokens.specs.Token.{numberRead, integerSize, rationalSize, integerIn, rationalIn, judged, sequence, tokenOf, tokenAt}
-use Rattle.tokens.specs.Passing.{passOf, Held}
+use Rattle.tokens.specs.Passing.{passOf, Answered}
 use Rattle.tokens.proofs.Signs.{abs-diff}
 use Rattle.tokens.proofs.Summaries.{take-slice}
 use Rattle.tokens.proofs.Pieces.{joined-data}
@@ -51,9 +51,9 @@ abs-by n (pos d) = refl
 abs-by n (negsuc d) = abs-neg n
 
 -- reducing makes nothing larger
-ratio-held : (n d : ℤ) → natAbs n ≤ most → natAbs d ≤ most → (natAbs d ≡ 0 → ⊥) → Held (ratioOf n d)
+ratio-answered : (n d : ℤ) → natAbs n ≤ most → natAbs d ≤ most → (natAbs d ≡ 0 → ⊥) → Answered (ratioOf n d)
 unfolding ratioOf limited
-ratio-held n d hn hd h =
+ratio-answered n d hn hd h =
     let g = gcdOf (natAbs n) (natAbs d) in
     let e : natAbs (quotZ (signedBy n d) (pos g)) ≡ natAbs n / g = abs-quot (signedBy n d) g ∙ ap (λ (x : ℕ). x / g) (abs-by n d) in
     rw (ne-eqb (natAbs d) 0 h, e, le-leb (natAbs n / g) most (le-trans (div-le-self (natAbs n) g) hn), le-leb (natAbs d / g) most (le-trans (div-le-self (natAbs d) g) hd)) tt
@@ -67,7 +67,7 @@ module _ (n v : ℕ) (hv : v < 2 ^ (8 * n)) where
       either (λ z. natAbs z ≡ 0 → ⊥) (ltb (v * 2) (2 ^ (8 * n))) (pos v) (pos v -ℤ pos (2 ^ (8 * n)))
       (λ _. h) (λ _ e. omega (arith, abs-diff v (2 ^ (8 * n)) hv))
 
-  -- a value p that is half of all, and none but it, is that far from 0
+  -- of at most p + p values none but p itself is as far from 0 as p
   near : (p : ℕ) → 2 ^ (8 * n) ≤ p + p → (v ≡ p → ⊥) → natAbs (signedOf n v) < p
   unfolding signedOf
   near p k h =
@@ -83,36 +83,36 @@ module _ (n v : ℕ) (hv : v < 2 ^ (8 * n)) where
 pub differs : (a b : ℕ) → not (eqb a b) ≡ true → a ≡ b → ⊥
 differs a b e z = false≢true (ap not (sym (eq-eqb a b z)) ∙ e)
 
-pub integer-held : (n v : ℕ) (d : List ℕ) → v ≡ valueOf d → n ≤ 4 → v < 2 ^ (8 * n) → (v ≡ 2147483648 → ⊥) → Held (ratioOf (integerIn n d) (pos 1))
-integer-held n v d e hn hv h = rw (← e) (ratio-held (signedOf n v) (pos 1) (small n v hv hn h) (omega arith) (λ z. omega arith))
+pub integer-answered : (n v : ℕ) (d : List ℕ) → v ≡ valueOf d → n ≤ 4 → v < 2 ^ (8 * n) → (v ≡ 2147483648 → ⊥) → Answered (ratioOf (integerIn n d) (pos 1))
+integer-answered n v d e hn hv h = rw (← e) (ratio-answered (signedOf n v) (pos 1) (small n v hv hn h) (omega arith) (λ z. omega arith))
 
 -- two halves of h bytes from a on
-pub rational-held : (h m v w a : ℕ) (s : List ℕ) → h ≤ 4 → m ≡ h + h → v ≡ valueOf (slice a (a + h) s) → w ≡ valueOf (slice (a + h) (a + h + h) s) → v < 2 ^ (8 * h) → w < 2 ^ (8 * h)
-    → (v ≡ 2147483648 → ⊥) → (w ≡ 2147483648 → ⊥) → (w ≡ 0 → ⊥) → Held (rationalIn h (slice a (a + m) s))
-rational-held h m v w a s hh l e f hv hw nv nw nz =
+pub rational-answered : (h m v w a : ℕ) (s : List ℕ) → h ≤ 4 → m ≡ h + h → v ≡ valueOf (slice a (a + h) s) → w ≡ valueOf (slice (a + h) (a + h + h) s) → v < 2 ^ (8 * h) → w < 2 ^ (8 * h)
+    → (v ≡ 2147483648 → ⊥) → (w ≡ 2147483648 → ⊥) → (w ≡ 0 → ⊥) → Answered (rationalIn h (slice a (a + m) s))
+rational-answered h m v w a s hh l e f hv hw nv nw nz =
     let t : a + h + h ≡ a + m = omega arith in
     let p : take h (slice a (a + m) s) ≡ slice a (a + h) s = take-slice s a h m (omega arith) in
     let q : drop h (slice a (a + m) s) ≡ slice (a + h) (a + h + h) s = drop-drop h a (take (a + m) s) ∙ ap (λ (x : ℕ). slice (a + h) x s) (sym t) in
-    rw (p, q, ← e, ← f) (ratio-held (signedOf h v) (signedOf h w) (small h v hv hh nv) (small h w hw hh nw) (not-zero h w hw nz))
+    rw (p, q, ← e, ← f) (ratio-answered (signedOf h v) (signedOf h w) (small h v hv hh nv) (small h w hw hh nw) (not-zero h w hw nz))
 
-held-over : (at next : ℕ) (a : Answer) → Held a → passOf (numberRead at next a) ≡ Over next
+answered-over : (at next : ℕ) (a : Answer) → Answered a → passOf (numberRead at next a) ≡ Over next
 unfolding passOf numberRead
-held-over at next (Is value) h = refl
-held-over at next TooLarge h = absurd h
-held-over at next ByZero h = absurd h
+answered-over at next (Is value) h = refl
+answered-over at next TooLarge h = absurd h
+answered-over at next ByZero h = absurd h
 
 module _ (k n : ℕ) (d : List ℕ) (l : length d ≡ n) (at next : ℕ) where
   pub string-over : k ≡ 1 → every Plain d ≡ true → passOf (judged k at d next) ≡ Over next
   unfolding passOf judged
   string-over e h = rw (e, h)
 
-  pub integer-over : k ≡ 2 → (integerSize n ≡ true) × Held (ratioOf (integerIn n d) (pos 1)) → passOf (judged k at d next) ≡ Over next
+  pub integer-over : k ≡ 2 → (integerSize n ≡ true) × Answered (ratioOf (integerIn n d) (pos 1)) → passOf (judged k at d next) ≡ Over next
   unfolding judged
-  integer-over e h = rw (e, l, h .0) (held-over at next (ratioOf (integerIn n d) (pos 1)) (h .1))
+  integer-over e h = rw (e, l, h .0) (answered-over at next (ratioOf (integerIn n d) (pos 1)) (h .1))
 
-  pub rational-over : k ≡ 4 → (rationalSize n ≡ true) × Held (rationalIn (n / 2) d) → passOf (judged k at d next) ≡ Over next
+  pub rational-over : k ≡ 4 → (rationalSize n ≡ true) × Answered (rationalIn (n / 2) d) → passOf (judged k at d next) ≡ Over next
   unfolding judged
-  rational-over e h = rw (e, l, h .0) (held-over at next (rationalIn (n / 2) d) (h .1))
+  rational-over e h = rw (e, l, h .0) (answered-over at next (rationalIn (n / 2) d) (h .1))
 
   pub name-over : k ≡ 5 → isName Named d ≡ true → passOf (judged k at d next) ≡ Over next
   unfolding passOf judged

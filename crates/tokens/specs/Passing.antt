@@ -33,7 +33,7 @@ passOf (read.Comment next) = Over next
 passOf (read.Unread refusal place) = Unread refusal place
 
 -- there is such a number
-abbrev pub Held : Answer → Type 0
-Held (Is value) = Unit
-Held TooLarge = ⊥
-Held ByZero = ⊥
+abbrev pub Answered : Answer → Type 0
+Answered (Is value) = Unit
+Answered TooLarge = ⊥
+Answered ByZero = ⊥

@@ -6,7 +6,8 @@ use crate::bits::low5;
 use crate::bits::op_number;
 use crate::bits::short15;
 
-// The token at `at`, all but a sequence. It calls nothing that stays a call, so a loop over tokens keeps its bytes in registers.
+// What the first bytes at `at` tell. A sequence is left to its own reader, so that this is put in line and a loop over tokens keeps the
+// slice in registers.
 pub fn form_at(s: &[u8], at: usize) -> Form
     ensures { λ r. ⌜ Shows (now (s .entry)) at r ⌝ }
 {

@@ -12,7 +12,7 @@ ghost use Rattle.tokens.specs.declared.Pass.the-variants.{Over};
 ghost use Rattle.tokens.specs.Text.{isName};
 ghost use Rattle.tokens.specs.Joined.{continued};
 ghost use Rattle.tokens.specs.Token.{integerSize, rationalSize, integerIn, rationalIn, judged, tokenAt};
-ghost use Rattle.tokens.specs.Passing.{passOf, Held};
+ghost use Rattle.tokens.specs.Passing.{passOf, Answered};
 use crate::Pass;
 use crate::Piece;
 use crate::Read;
@@ -47,7 +47,7 @@ const LEAST: u64 = 2147483648;
 
 fn is_integer(s: &[u8], start: usize, len: usize) -> bool
     requires { ⌜ start + len ≤ length (now s) ⌝ }
-    ensures { λ r. ⌜ (r ≡ true → (integerSize len ≡ true) × Held (ratioOf (integerIn len (slice start (start + len) (now (s .entry)))) (pos 1))) ⌝ }
+    ensures { λ r. ⌜ (r ≡ true → (integerSize len ≡ true) × Answered (ratioOf (integerIn len (slice start (start + len) (now (s .entry)))) (pos 1))) ⌝ }
 {
     if len < 1 {
         return false;
@@ -61,7 +61,7 @@ fn is_integer(s: &[u8], start: usize, len: usize) -> bool
 // A rational that is inside the limits before it is reduced.
 fn is_rational(s: &[u8], start: usize, len: usize) -> bool
     requires { ⌜ start + len ≤ length (now s) ⌝ }
-    ensures { λ r. ⌜ (r ≡ true → (rationalSize len ≡ true) × Held (rationalIn (len / 2) (slice start (start + len) (now (s .entry))))) ⌝ }
+    ensures { λ r. ⌜ (r ≡ true → (rationalSize len ≡ true) × Answered (rationalIn (len / 2) (slice start (start + len) (now (s .entry))))) ⌝ }
 {
     if len % 2 != 0 {
         return false;

@@ -1,5 +1,5 @@
 -- `passing::is_rational` meets its contract. Assumes nothing.
-use Rattle.tokens.proofs.OnePiece.{differs, rational-held}
+use Rattle.tokens.proofs.OnePiece.{differs, rational-answered}
 use Rattle.tokens.proofs.Sizes.{rational-right}
 use Prim.Native.Nat.{ℕ, _/_}
 use native.Mathlib.Nat.{zero-add}
@@ -16,7 +16,7 @@ returns-6 c e =
     let v = c .before .before .before .value-after in
     let w = c .before .value-after2 in (
       rational-right (a .len) (omega arith) (omega arith) (omega arith),
-      rational-held h (a .len) (v .result) (w .result) (a .start) (a .s .now) (omega arith) (omega arith) (v .ensures .0) (w .ensures .0) (rw (zero-add h) at (v .ensures .1)) (rw (zero-add h) at (w .ensures .1)) (c .before .before .if4 .left) (c .if5 .left) (differs _ _ e),
+      rational-answered h (a .len) (v .result) (w .result) (a .start) (a .s .now) (omega arith) (omega arith) (v .ensures .0) (w .ensures .0) (rw (zero-add h) at (v .ensures .1)) (rw (zero-add h) at (w .ensures .1)) (c .before .before .if4 .left) (c .if5 .left) (differs _ _ e),
     )
 
 pub is-rational-spec : {M : Type 1} → statement M
