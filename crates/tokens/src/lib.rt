@@ -7,6 +7,7 @@ mod values; // bytes high byte first, two's complement
 pub mod text; // strings and identifiers
 pub mod sequences; // a sequence with its continuations
 pub mod reading; // the token at a place
+pub mod point; // the reading point, handed from token to token
 
 // Why an input is refused. specs/Refusal.antt has the numbers.
 pub enum Refusal {
