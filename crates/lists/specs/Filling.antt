@@ -28,11 +28,11 @@ tokensIn s = readFrom (length s) s 21 []
 -- ---- the survey
 
 abbrev pub stepOf : Read → Step
-stepOf (Number value next) = Go 1 0 next
-stepOf (Identifier len next) = Go 1 len next
-stepOf (String count next) = Go 1 count next
-stepOf (Operator n next) = Go 1 0 next
-stepOf (Comment next) = Go 0 0 next
+stepOf (Number value next) = Go 1 0
+stepOf (Identifier len next) = Go 1 len
+stepOf (String count next) = Go 1 count
+stepOf (Operator n next) = Go 1 0
+stepOf (Comment next) = Go 0 0
 stepOf (Unread refusal place) = Stop refusal place
 
 unfoldable pub surveyOf : Got → Survey
@@ -62,14 +62,6 @@ added s at (Operator n next) = operator n ∷ []
 added s at (Comment next) = []
 added s at (Unread refusal place) = []
 
-unfoldable pub nextOf : ℕ → Read → ℕ
-nextOf at (Number value next) = next
-nextOf at (Identifier len next) = next
-nextOf at (String count next) = next
-nextOf at (Operator n next) = next
-nextOf at (Comment next) = next
-nextOf at (Unread refusal place) = at
-
 -- a token that was read, and not a refusal
 abbrev pub Whole : Read → Type 0
 Whole (Number value next) = Unit
@@ -81,7 +73,6 @@ Whole (Unread refusal place) = ⊥
 
 -- what the token t that was read at `at` puts into the tables, at p and at o
 pub record Put (s : List ℕ) (at : ℕ) (t : Read) (p o : ℕ) (list list′ text text′ : List ℕ) (r : Place) : Type 0 where
-  pub to : r .at ≡ nextOf at t
   pub list-place : r .p ≡ p + length (listOf o (added s at t))
   pub text-place : r .o ≡ o + length (textsOf (added s at t))
   pub list-is : list′ ≡ sets list p (listOf o (added s at t))

@@ -20,12 +20,11 @@ pub enum Measured {
     Wrong { index: usize },
 }
 
-// What a token that was read does to the counts, and where reading goes on; or the refusal met, and its place.
+// What a token that was read does to the counts; or the refusal met, and its place.
 pub enum Step {
     Go {
         adds: usize,
         text: usize,
-        next: usize,
     },
     Stop {
         refusal: tokens::Refusal,
@@ -45,9 +44,8 @@ pub enum Survey {
     },
 }
 
-// Where reading stands: in the bytes, in the list, in the text table.
+// Where the next token goes: in the list, in the text table.
 pub struct Place {
-    pub at: usize,
     pub p: usize,
     pub o: usize,
 }
