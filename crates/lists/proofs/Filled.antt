@@ -1,5 +1,5 @@
 -- The loop that fills the two tables, a token at a turn. In order: the tables only grow; a turn; the end. Assumes nothing.
-use mathlib.Core.Path.{_≡_, refl, sym, ap, subst, _∙_}
+use mathlib.Core.Path.{_≡_, refl, sym, subst, _∙_}
 use mathlib.Core.List.{List, _++_}
 use Prim.Native.Nat.{ℕ, zero, suc, _+_, _-_, _<_, _≤_}
 use native.Mathlib.Omega.{arith}
@@ -116,24 +116,23 @@ module _ {G : Got} {s list₀ list text₀ text : List ℕ} {k at p o : ℕ} {ts
         text-room = omega (arith, w .1, sizes-on .1, F .text-same);
       }
 
-  pub filled-next : Told s at (tokenAt s at) → {n : ℕ} → n ≡ nextOf at (tokenAt s at) → {list′ text′ : List ℕ} {r : Place} → Put s at t p o list list′ text text′ r → length list′ ≡ length list → length text′ ≡ length text
-      → Filled G s list₀ list′ text₀ text′ (k - 1) n (r .p) (r .o) (ts ++ added s at t) × (at < n)
-  filled-next known {n} f {list′} {text′} P l x =
+  pub filled-next : Told s at (tokenAt s at) → {list′ text′ : List ℕ} {r : Place} → Put s at t p o list list′ text text′ r → length list′ ≡ length list → length text′ ≡ length text
+      → Filled G s list₀ list′ text₀ text′ (k - 1) (r .at) (r .p) (r .o) (ts ++ added s at t) × (at < r .at)
+  filled-next known {list′} {text′} P l x =
       let us = added s at t in
-      let to : n ≡ nextOf at t = f ∙ ap (nextOf at) (sym e) in
       let q = reaches s at t (subst (Told s at) (sym e) known) t-whole in (
         record {
-          room = omega (arith, F .room, q, to);
+          room = omega (arith, F .room, q, P .to);
           place = P .list-place ∙ sym (sizes-on .0);
           texts = P .text-place ∙ sym (sizes-on .1);
-          before = omega (arith, P .text-place, q, to, F .before);
+          before = omega (arith, P .text-place, P .to, q, F .before);
           list-same = l ∙ F .list-same;
           text-same = x ∙ F .text-same;
           list-is = stored-on list₀ list list′ (listOf 0 ts) (listOf o us) (listOf 0 (ts ++ us)) p (F .place) words-on (F .list-is) (P .list-is);
           text-is = stored-on text₀ text text′ (textsOf ts) (textsOf us) (textsOf (ts ++ us)) o (F .texts) (texts-append ts us) (F .text-is) (P .text-is);
-          rest = rw to t-rest;
+          rest = rw (P .to) t-rest;
         },
-        omega (arith, q, to),
+        omega (arith, q, P .to),
       )
 
 -- ---- the end

@@ -15,6 +15,7 @@ use Rattle.tokens.specs.declared.Read.{Read}
 use Rattle.tokens.specs.declared.Read.the-variants.{Number, Identifier, String, Operator, Comment, Unread}
 use Rattle.tokens.specs.declared.Refusal.{Refusal}
 use Rattle.tokens.specs.Joined.{joinedAt, FitsText}
+use Rattle.tokens.specs.Point.{nextOf}
 use Rattle.tokens.specs.Text.{every, isName}
 use Rattle.tokens.specs.declared.Rule.the-variants.{Plain, Named}
 use Rattle.tokens.proofs.Told.{Told, Text}
@@ -51,17 +52,18 @@ list-one o t = append-nil (wordsOf o t)
 pub record IsText (s : List ℕ) (at : ℕ) (t : Read) (lower : Bool) (kind len next : ℕ) : Type 0 where
   pub rule : List ℕ → Bool
   pub adds : added s at t ≡ textToken lower (shown lower (dataOf (joinedAt s at))) ∷ []
+  pub ends : nextOf at t ≡ next
   pub told : Text s at len next rule
   pub words : (o : ℕ) (d : List ℕ) → wordsOf o (textToken lower d) ≡ fourWords kind o (length d)
 
 module _ (s : List ℕ) (at : ℕ) (t : Read) (known : Told s at t) {len next : ℕ} where
   pub identifier-is : t ≡ Identifier len next → IsText s at t true 2 len next
   unfolding added textToken shown wordsOf
-  identifier-is e = record { rule = isName Named; adds = rw e; told = subst (Told s at) e known; words = λ o d. refl }
+  identifier-is e = record { rule = isName Named; adds = rw e; ends = rw e; told = subst (Told s at) e known; words = λ o d. refl }
 
   pub string-is : t ≡ String len next → IsText s at t false 3 len next
   unfolding added textToken shown wordsOf
-  string-is e = record { rule = every Plain; adds = rw e; told = subst (Told s at) e known; words = λ o d. refl }
+  string-is e = record { rule = every Plain; adds = rw e; ends = rw e; told = subst (Told s at) e known; words = λ o d. refl }
 
 -- ---- what is put
 
@@ -72,10 +74,11 @@ module _ {s : List ℕ} {at : ℕ} {t : Read} {p o : ℕ} {list text : List ℕ}
       let b = rw (e, text-one tok) at (R .text-room) in
       (a, b)
 
-  made : (list′ text′ : List ℕ) (tok : Token) (q : ℕ) → added s at t ≡ tok ∷ [] → list′ ≡ sets list p (wordsOf o tok) → text′ ≡ sets text o (textOf tok) → q ≡ o + length (textOf tok)
-      → Put s at t p o list list′ text text′ (record { p = p + 16; o = q })
-  made list′ text′ tok q e l x f =
+  made : (list′ text′ : List ℕ) (tok : Token) (next q : ℕ) → added s at t ≡ tok ∷ [] → nextOf at t ≡ next → list′ ≡ sets list p (wordsOf o tok) → text′ ≡ sets text o (textOf tok) → q ≡ o + length (textOf tok)
+      → Put s at t p o list list′ text text′ (record { at = next; p = p + 16; o = q })
+  made list′ text′ tok next q e n l x f =
       record {
+        to = sym n;
         list-place = rw (e, list-one o tok, words-length o tok);
         text-place = rw (e, text-one tok) f;
         list-is = rw (e, list-one o tok) l;
@@ -86,21 +89,21 @@ module _ {s : List ℕ} {at : ℕ} {t : Read} {p o : ℕ} {list text : List ℕ}
   unfolding added
   number-room {value} e = (one-room (number value) (rw e)) .0
 
-  pub number-put : {value : numbers.Number} {next : ℕ} → t ≡ Number value next → {list′ : List ℕ} → list′ ≡ sets list p (fourWords 1 (ofZ w32 (value .num)) (value .den)) → Put s at t p o list list′ text text (record { p = p + 16; o = o })
+  pub number-put : {value : numbers.Number} {next : ℕ} → t ≡ Number value next → {list′ : List ℕ} → list′ ≡ sets list p (fourWords 1 (ofZ w32 (value .num)) (value .den)) → Put s at t p o list list′ text text (record { at = next; p = p + 16; o = o })
   unfolding added textOf wordsOf
-  number-put {value} e {list′} l = made list′ text (number value) o (rw e) l refl (omega arith)
+  number-put {value} {next} e {list′} l = made list′ text (number value) next o (rw e) (rw e) l refl (omega arith)
 
   pub operator-room : {n next : ℕ} → t ≡ Operator n next → p + 16 ≤ length list
   unfolding added
   operator-room {n} e = (one-room (operator n) (rw e)) .0
 
-  pub operator-put : {n next : ℕ} → t ≡ Operator n next → {list′ : List ℕ} → list′ ≡ sets list p (fourWords 4 n 0) → Put s at t p o list list′ text text (record { p = p + 16; o = o })
+  pub operator-put : {n next : ℕ} → t ≡ Operator n next → {list′ : List ℕ} → list′ ≡ sets list p (fourWords 4 n 0) → Put s at t p o list list′ text text (record { at = next; p = p + 16; o = o })
   unfolding added textOf wordsOf
-  operator-put {n} e {list′} l = made list′ text (operator n) o (rw e) l refl (omega arith)
+  operator-put {n} {next} e {list′} l = made list′ text (operator n) next o (rw e) (rw e) l refl (omega arith)
 
-  pub comment-put : {next : ℕ} → t ≡ Comment next → Put s at t p o list list text text (record { p = p; o = o })
+  pub comment-put : {next : ℕ} → t ≡ Comment next → Put s at t p o list list text text (record { at = next; p = p; o = o })
   unfolding added listOf textsOf
-  comment-put e = record { list-place = rw e (omega arith); text-place = rw e (omega arith); list-is = rw e; text-is = rw e }
+  comment-put e = record { to = rw e; list-place = rw e (omega arith); text-place = rw e (omega arith); list-is = rw e; text-is = rw e }
 
   pub no-refusal : {refusal : Refusal} {place : ℕ} → t ≡ Unread refusal place → ⊥
   no-refusal e = subst Whole e (R .is-whole)
@@ -114,8 +117,8 @@ module _ {s : List ℕ} {at : ℕ} {t : Read} {p o : ℕ} {list text : List ℕ}
         let k = T .told in
         (R .inside, (one-room _ (T .adds)) .0, omega (arith, R .before, R .inside, R .small), omega (arith, k .longer, k .inside, R .small), rw (k .joined) (omega (arith, text-end, k .counted)))
 
-    pub text-put : {list′ text′ : List ℕ} → (list′ ≡ sets list p (fourWords kind o len)) × (text′ ≡ sets text o (shown lower (dataOf (joinedAt s at)))) → Put s at t p o list list′ text text′ (record { p = p + 16; o = o + len })
+    pub text-put : {list′ text′ : List ℕ} → (list′ ≡ sets list p (fourWords kind o len)) × (text′ ≡ sets text o (shown lower (dataOf (joinedAt s at)))) → Put s at t p o list list′ text text′ (record { at = next; p = p + 16; o = o + len })
     text-put {list′} {text′} x =
         let d = shown lower (dataOf (joinedAt s at)) in
         let m : length d ≡ len = ap length (sym (text-of lower d)) ∙ text-length lower (T .told) in
-        made list′ text′ (textToken lower d) (o + len) (T .adds) (x .0 ∙ rw (T .words o d, m)) (x .1 ∙ rw (text-of lower d)) (rw (text-of lower d, m))
+        made list′ text′ (textToken lower d) next (o + len) (T .adds) (T .ends) (x .0 ∙ rw (T .words o d, m)) (x .1 ∙ rw (text-of lower d)) (rw (text-of lower d, m))

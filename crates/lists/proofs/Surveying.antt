@@ -58,26 +58,27 @@ texts-length lower {s} {at} k = ap length (text-one (textToken lower (shown lowe
 
 -- ---- what a token adds
 
--- a token that adds a tokens and m bytes of text, and ends past its text
-pub record Goes (s : List ℕ) (at : ℕ) (t : Read) (a m : ℕ) : Type 0 where
+-- a token that adds a tokens and m bytes of text, and ends at n
+pub record Goes (s : List ℕ) (at : ℕ) (t : Read) (a m n : ℕ) : Type 0 where
   pub is-whole : Whole t
+  pub to-next : nextOf at t ≡ n
   pub adds : length (added s at t) ≡ a
   pub text : length (textsOf (added s at t)) ≡ m
   pub few : a ≤ 1
-  pub later : at + m < nextOf at t
-  pub inside : nextOf at t ≤ length s
+  pub later : at + m < n
+  pub inside : n ≤ length s
 
 abbrev pub Steps : List ℕ → ℕ → Read → Step → Type 0
-Steps s at t (Go a m) = Goes s at t a m
+Steps s at t (Go a m n) = Goes s at t a m n
 Steps s at t (Stop refusal place) = t ≡ Unread refusal place
 
 pub steps : (s : List ℕ) (at : ℕ) (t : Read) → Told s at t → Steps s at t (stepOf t)
 unfolding added textsOf textOf textToken shown
-steps s at (Number value next) k = record { is-whole = tt; adds = refl; text = refl; few = omega arith; later = omega (arith, k .1 .0); inside = k .1 .1 }
-steps s at (Identifier len next) k = record { is-whole = tt; adds = refl; text = texts-length true k; few = omega arith; later = k .longer; inside = k .inside }
-steps s at (String count next) k = record { is-whole = tt; adds = refl; text = texts-length false k; few = omega arith; later = k .longer; inside = k .inside }
-steps s at (Operator n next) k = record { is-whole = tt; adds = refl; text = refl; few = omega arith; later = omega (arith, k .1 .0); inside = k .1 .1 }
-steps s at (Comment next) k = record { is-whole = tt; adds = refl; text = refl; few = omega arith; later = omega (arith, k .0); inside = k .1 }
+steps s at (Number value next) k = record { is-whole = tt; to-next = refl; adds = refl; text = refl; few = omega arith; later = omega (arith, k .1 .0); inside = k .1 .1 }
+steps s at (Identifier len next) k = record { is-whole = tt; to-next = refl; adds = refl; text = texts-length true k; few = omega arith; later = k .longer; inside = k .inside }
+steps s at (String count next) k = record { is-whole = tt; to-next = refl; adds = refl; text = texts-length false k; few = omega arith; later = k .longer; inside = k .inside }
+steps s at (Operator n next) k = record { is-whole = tt; to-next = refl; adds = refl; text = refl; few = omega arith; later = omega (arith, k .1 .0); inside = k .1 .1 }
+steps s at (Comment next) k = record { is-whole = tt; to-next = refl; adds = refl; text = refl; few = omega arith; later = omega (arith, k .0); inside = k .1 }
 steps s at (Unread refusal place) k = refl
 
 -- a token ends past its text
@@ -85,7 +86,7 @@ pub reaches : (s : List ℕ) (at : ℕ) (t : Read) → Told s at t → Whole t �
 reaches s at t k w = by-step (stepOf t) (steps s at t k)
   where
     by-step : (p : Step) → Steps s at t p → at + length (textsOf (added s at t)) < nextOf at t
-    by-step (Go a m) g = omega (arith, g .later, g .text)
+    by-step (Go a m n) g = omega (arith, g .later, g .to-next, g .text)
     by-step (Stop refusal place) g = absurd (subst Whole g w)
 
 pub on-go : (s : List ℕ) (at : ℕ) (ts : List Token) (t : Read) (more : ℕ → List Token → Got) → Whole t → onRead s at ts t more ≡ more (nextOf at t) (ts ++ added s at t)
@@ -130,14 +131,14 @@ module _ {G : Got} {s : List ℕ} {k at c x : ℕ} {ts : List Token} (v : Survey
   unfolding surveyOf
   survey-stop h f = rw (read-stop G k s at ts (v .room) (v .rest) h _ _ f)
 
-  pub survey-next : at < length s → {a m n : ℕ} → Goes s at (tokenAt s at) a m → n ≡ nextOf at (tokenAt s at) → Surveyed G s (k - 1) n (c + a) (x + m) (ts ++ added s at (tokenAt s at))
-  survey-next h g e =
+  pub survey-next : at < length s → {a m n : ℕ} → Goes s at (tokenAt s at) a m n → Surveyed G s (k - 1) n (c + a) (x + m) (ts ++ added s at (tokenAt s at))
+  survey-next h g =
       let t = tokenAt s at in
       record {
-        room = omega (arith, v .room, g .later, e);
+        room = omega (arith, v .room, g .later);
         count = rw (length-append ts (added s at t)) (omega (arith, v .count, g .adds));
         texts = rw (texts-append ts (added s at t), length-append (textsOf ts) (textsOf (added s at t))) (omega (arith, v .texts, g .text));
-        count-in = omega (arith, v .count-in, g .few, g .later, e);
-        texts-in = omega (arith, v .texts-in, g .later, e);
-        rest = rw e (read-went G k s at ts (v .room) (v .rest) h (g .is-whole));
+        count-in = omega (arith, v .count-in, g .few, g .later);
+        texts-in = omega (arith, v .texts-in, g .later);
+        rest = rw (g .to-next) at (read-went G k s at ts (v .room) (v .rest) h (g .is-whole));
       }

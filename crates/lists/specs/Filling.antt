@@ -11,6 +11,7 @@ use Rattle.tokens.specs.declared.Read.the-variants.{Number, Identifier, String,
 use Rattle.tokens.specs.Text.{lowered}
 use Rattle.tokens.specs.Joined.{whole, joinedAt}
 use Rattle.tokens.specs.Token.{tokenAt}
+use Rattle.tokens.specs.Point.{nextOf}
 use Rattle.lists.specs.declared.Place.{Place}
 use Rattle.lists.specs.declared.Step.{Step}
 use Rattle.lists.specs.declared.Step.the-variants.{Go, Stop}
@@ -28,11 +29,11 @@ tokensIn s = readFrom (length s) s 21 []
 -- ---- the survey
 
 abbrev pub stepOf : Read → Step
-stepOf (Number value next) = Go 1 0
-stepOf (Identifier len next) = Go 1 len
-stepOf (String count next) = Go 1 count
-stepOf (Operator n next) = Go 1 0
-stepOf (Comment next) = Go 0 0
+stepOf (Number value next) = Go 1 0 next
+stepOf (Identifier len next) = Go 1 len next
+stepOf (String count next) = Go 1 count next
+stepOf (Operator n next) = Go 1 0 next
+stepOf (Comment next) = Go 0 0 next
 stepOf (Unread refusal place) = Stop refusal place
 
 unfoldable pub surveyOf : Got → Survey
@@ -73,6 +74,7 @@ Whole (Unread refusal place) = ⊥
 
 -- what the token t that was read at `at` puts into the tables, at p and at o
 pub record Put (s : List ℕ) (at : ℕ) (t : Read) (p o : ℕ) (list list′ text text′ : List ℕ) (r : Place) : Type 0 where
+  pub to : r .at ≡ nextOf at t
   pub list-place : r .p ≡ p + length (listOf o (added s at t))
   pub text-place : r .o ≡ o + length (textsOf (added s at t))
   pub list-is : list′ ≡ sets list p (listOf o (added s at t))

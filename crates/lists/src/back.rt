@@ -13,21 +13,21 @@ use crate::Place;
 use crate::Step;
 use crate::Survey;
 
-fn go(adds: usize, text: usize) -> Step
-    ensures { λ r. ⌜ r ≡ Step.Go adds text ⌝ }
+fn go(adds: usize, text: usize, next: usize) -> Step
+    ensures { λ r. ⌜ r ≡ Step.Go adds text next ⌝ }
 {
-    Step::Go { adds, text }
+    Step::Go { adds, text, next }
 }
 
 fn step_of(t: tokens::Read) -> Step
     ensures { λ r. ⌜ r ≡ stepOf t ⌝ }
 {
     match t {
-        tokens::Read::Number { value: _, next: _ } => go(1, 0),
-        tokens::Read::Identifier { len, next: _ } => go(1, len),
-        tokens::Read::String { count, next: _ } => go(1, count),
-        tokens::Read::Operator { number: _, next: _ } => go(1, 0),
-        tokens::Read::Comment { next: _ } => go(0, 0),
+        tokens::Read::Number { value: _, next } => go(1, 0, next),
+        tokens::Read::Identifier { len, next } => go(1, len, next),
+        tokens::Read::String { count, next } => go(1, count, next),
+        tokens::Read::Operator { number: _, next } => go(1, 0, next),
+        tokens::Read::Comment { next } => go(0, 0, next),
         tokens::Read::Unread { refusal, place } => Step::Stop { refusal, place },
     }
 }
@@ -40,16 +40,14 @@ fn survey_of(s: &[u8]) -> Survey
     let mut count: usize = 0;
     let mut texts: usize = 0;
     while at < s.len() {
-        let taken = tokens::point::take(s, at);
-        let token = taken.token;
-        match step_of(token) {
+        match step_of(tokens::point::token_at(s, at)) {
             Step::Stop { refusal, place } => {
                 return Survey::Broken { refusal, place };
             }
-            Step::Go { adds, text } => {
+            Step::Go { adds, text, next } => {
                 count += adds;
                 texts += text;
-                at = taken.next;
+                at = next;
             }
         }
     }
@@ -151,11 +149,15 @@ fn put_text(
 }
 
 // The place after a token's words.
-fn past(p: usize, o: usize) -> Place
+fn past(next: usize, p: usize, o: usize) -> Place
     requires { ⌜ p + 16 < 2 ^ 64 ⌝ }
-    ensures { λ r. ⌜ r ≡ record { p = p + 16; o = o } ⌝ }
+    ensures { λ r. ⌜ r ≡ record { at = next; p = p + 16; o = o } ⌝ }
 {
-    Place { p: p + 16, o }
+    Place {
+        at: next,
+        p: p + 16,
+        o,
+    }
 }
 
 // Puts what the token t at `at` adds into the two tables.
@@ -172,30 +174,27 @@ fn put_read(
     ensures { λ r. ⌜ Put (now (s .entry)) at t p o (now (list .entry)) (now (list .exit)) (now (text .entry)) (now (text .exit)) r ⌝ }
 {
     match t {
-        tokens::Read::Number { value, next: _ } => {
+        tokens::Read::Number { value, next } => {
             put_number(list, p, value);
-            return past(p, o);
+            return past(next, p, o);
         }
-        tokens::Read::Identifier { len, next: _ } => {
+        tokens::Read::Identifier { len, next } => {
             put_text(true, 2, s, at, len, list, p, text, o);
-            return past(p, o + len);
+            return past(next, p, o + len);
         }
-        tokens::Read::String { count, next: _ } => {
+        tokens::Read::String { count, next } => {
             put_text(false, 3, s, at, count, list, p, text, o);
-            return past(p, o + count);
+            return past(next, p, o + count);
         }
-        tokens::Read::Operator { number, next: _ } => {
+        tokens::Read::Operator { number, next } => {
             put_words(list, p, 4, number as u32, 0);
-            return past(p, o);
+            return past(next, p, o);
         }
-        tokens::Read::Comment { next: _ } => {
-            return Place { p, o };
+        tokens::Read::Comment { next } => {
+            return Place { at: next, p, o };
         }
-        tokens::Read::Unread {
-            refusal: _,
-            place: _,
-        } => {
-            return Place { p, o };
+        tokens::Read::Unread { refusal, place } => {
+            return Place { at, p, o };
         }
     }
 }
@@ -209,10 +208,8 @@ fn fill_tables(s: &[u8], list: &mut [u8], text: &mut [u8])
     let mut p: usize = 0;
     let mut o: usize = 0;
     while at < s.len() {
-        let taken = tokens::point::take(s, at);
-        let token = taken.token;
-        let g = put_read(s, at, token, list, p, text, o);
-        at = taken.next;
+        let g = put_read(s, at, tokens::point::token_at(s, at), list, p, text, o);
+        at = g.at;
         p = g.p;
         o = g.o;
     }

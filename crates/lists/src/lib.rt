@@ -20,11 +20,12 @@ pub enum Measured {
     Wrong { index: usize },
 }
 
-// What a token that was read does to the counts; or the refusal met, and its place.
+// What a token that was read does to the counts, and where reading goes on; or the refusal met, and its place.
 pub enum Step {
     Go {
         adds: usize,
         text: usize,
+        next: usize,
     },
     Stop {
         refusal: tokens::Refusal,
@@ -44,8 +45,9 @@ pub enum Survey {
     },
 }
 
-// Where the next token goes: in the list, in the text table.
+// Where reading stands: in the bytes, in the list, in the text table.
 pub struct Place {
+    pub at: usize,
     pub p: usize,
     pub o: usize,
 }

@@ -12,4 +12,5 @@ pub mod Judged
 pub mod Ends
 pub mod Told
 pub mod Numbers
+pub mod Pointed
 pub mod Theorems

@@ -1,5 +1,5 @@
--- The reading point: the place after a token (01, Shape: "A reading point, the master's bytes together with the place reached, is
--- handed from token to token"). In order: the place; the token with it. Assumes nothing.
+-- The reading point (01, What the controller takes: "A reading point, the master's bytes together with the place reached, is handed
+-- from token to token"). In order: the place after a token; the token with that place. Assumes nothing.
 use Prim.Native.Nat.{ℕ}
 use mathlib.Core.List.{List}
 use Rattle.tokens.specs.declared.Read.{Read}
@@ -18,4 +18,4 @@ nextOf at (Unread refusal place) = at
 
 -- the token at `at`, and the place after it
 abbrev pub takenAt : List ℕ → ℕ → Taken
-takenAt s at = record { token = tokenAt s at; next = nextOf at (tokenAt s at) }
+takenAt s at = let t = tokenAt s at in record { token = t; next = nextOf at t }

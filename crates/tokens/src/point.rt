@@ -1,4 +1,5 @@
-// The reading point: the bytes together with the place reached.
+// The reading point, the bytes together with the place reached, handed from token to token. Each function over it takes it apart and
+// calls one that is proved on slice and place. Callers use `token_at`, `take` and `left_at`, which need no walk of theirs.
 ghost use mathlib.Core.Path.{_≡_};
 ghost use Prim.Native.Nat.{_-_};
 ghost use lib.ListN.{length};
@@ -57,6 +58,7 @@ fn left_from(s: &[u8], at: usize) -> usize
     s.len() - at
 }
 
+// The reading point at a place of the bytes.
 pub fn point_at<'a>(src: &'a [u8], at: usize) -> Reader<'a>
     ensures { λ r. ⌜ r ≡ record { src = src .entry; at = at } ⌝ }
 {
@@ -70,7 +72,7 @@ pub fn token<'a>(r: Reader<'a>) -> Read
     read_token(r.src, r.at)
 }
 
-// The reading point handed on, past the token t.
+// The reading point handed on past the token t, which was read there.
 pub fn past<'a>(r: Reader<'a>, t: Read) -> Reader<'a>
     ensures { λ q. ⌜ q ≡ record { src = r .entry .src; at = nextOf (r .entry .at) t } ⌝ }
 {
@@ -85,6 +87,13 @@ pub fn left<'a>(r: Reader<'a>) -> usize
     left_from(r.src, r.at)
 }
 
+// The token at a place.
+pub fn token_at(s: &[u8], at: usize) -> Read
+    ensures { λ t. ⌜ t ≡ tokenAt (now (s .entry)) at ⌝ }
+{
+    token(point_at(s, at))
+}
+
 // The token at a place, and the place that the reading point is handed on to.
 pub fn take(s: &[u8], at: usize) -> Taken
     ensures { λ r. ⌜ r ≡ takenAt (now (s .entry)) at ⌝ }
@@ -93,4 +102,11 @@ pub fn take(s: &[u8], at: usize) -> Taken
     let token = token(here);
     let on = past(here, token);
     Taken { token, next: on.at }
+}
+
+// How many bytes are left at a place.
+pub fn left_at(s: &[u8], at: usize) -> usize
+    ensures { λ n. ⌜ n ≡ length (now (s .entry)) - at ⌝ }
+{
+    left(point_at(s, at))
 }

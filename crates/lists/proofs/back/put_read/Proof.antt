@@ -48,6 +48,6 @@ put-read-spec =
     (λ c. search needs)
     (λ c. rw (c .past4 .ensures) (operator-put (c .before .before .before .before .before .before .before .before .before .before .before .pre) (c .before .before .before .before .before .before .t4 .given .1) (c .before .before .before .put-words .ensures)))
     (λ c. search needs)
-    (λ c. comment-put (c .before .before .before .before .before .pre) (c .enum-told .given .1))
+    (λ c. comment-put (c .before .before .before .before .before .before .pre) (c .before .t5 .given .1))
     (λ c. search needs)
-    (λ c. absurd (no-refusal (c .before .before .before .before .before .pre) (c .enum-told2 .given .1))))
+    (λ c. absurd (no-refusal (c .before .before .before .before .before .before .pre) (c .before .t6 .given .1))))

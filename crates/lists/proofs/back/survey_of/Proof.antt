@@ -1,13 +1,11 @@
 -- `back::survey_of` meets its contract: what is counted and what is left from `at` on are the whole list. Assumes nothing.
-use mathlib.Core.Path.{_≡_, refl, sym, ap, subst, _∙_}
+use mathlib.Core.Path.{refl, sym, ap, subst, _∙_}
 use mathlib.Core.List.{List, [], _++_}
 use Prim.Native.Nat.{ℕ, _-_}
 use native.Mathlib.Omega.{arith}
 use lib.ListN.{length}
 use borrow.Author.Needs.{needs}
-use Rattle.tokens.specs.declared.point.Taken.{Taken}
 use Rattle.tokens.specs.Token.{tokenAt}
-use Rattle.tokens.specs.Point.{nextOf}
 use Rattle.tokens.proofs.Theorems.{token-says}
 use Rattle.lists.specs.Tokens.{Token}
 use Rattle.lists.specs.Promise.{textsOf}
@@ -26,15 +24,11 @@ stepped : (c : tie.After-step-of Inv-loop μ-loop) → let s = c .before .before
 stepped c =
     let s = c .before .before .before .before .before .args .s .now in
     let at = c .before .before .before .loop .at in
-    subst (Steps s at (tokenAt s at)) (sym (c .step-of .ensures ∙ ap (λ (x : Taken). stepOf (x .token)) (c .before .take .ensures)))
+    subst (Steps s at (tokenAt s at)) (sym (c .step-of .ensures ∙ ap stepOf (c .before .token-at .ensures)))
     (steps s at (tokenAt s at) (token-says s at (λ i. omega (arith, c .before .before .before .before .shared-slice-known .given i)) (omega arith)))
 
-gone : (c : tie.After-known-told2 Inv-loop μ-loop) → let s = c .before .before .before .before .before .before .before .before .args .s .now in let at = c .before .before .before .before .before .before .loop .at in let g = c .before .adds .given in Goes s at (tokenAt s at) (g .0 .0) (g .0 .1 .0)
+gone : (c : tie.After-known-told2 Inv-loop μ-loop) → let s = c .before .before .before .before .before .before .before .before .args .s .now in let at = c .before .before .before .before .before .before .loop .at in let g = c .before .adds .given in Goes s at (tokenAt s at) (g .0 .0) (g .0 .1 .0) (g .0 .1 .1 .0)
 gone c = let s = c .before .before .before .before .before .before .before .before .args .s .now in let at = c .before .before .before .before .before .before .loop .at in subst (Steps s at (tokenAt s at)) (c .before .adds .given .1) (stepped (c .before .before .before))
-
--- the reading point is handed on to the place after the token
-went : (c : tie.After-known-told2 Inv-loop μ-loop) → let s = c .before .before .before .before .before .before .before .before .args .s .now in let at = c .before .before .before .before .before .before .loop .at in c .before .before .before .before .take .result .next ≡ nextOf at (tokenAt s at)
-went c = ap (λ (x : Taken). x .next) (c .before .before .before .before .take .ensures)
 
 loop-holds : tie.Need-loop-holds Inv-loop μ-loop
 unfolding textsOf
@@ -54,6 +48,6 @@ survey-of-spec =
     (λ c. search needs)
     (λ c. omega (arith, c .before .before .before .before .before .before .loop .inv .2 .count-in, gone c .few))
     (λ c. omega (arith, c .before .before .before .before .before .before .loop .inv .2 .texts-in, gone c .later, gone c .inside))
-    (λ c. omega (arith, gone c .later, went c))
-    (λ c. let s = c .before .before .before .before .before .before .before .before .args .s .now in let o = c .before .before .before .before .before .before .loop in (o .inv .0 - 1, o .inv .1 ++ added s (o .at) (tokenAt s (o .at)), survey-next (o .inv .2) (omega arith) (gone c) (went c)))
+    (λ c. omega (arith, gone c .later))
+    (λ c. let s = c .before .before .before .before .before .before .before .before .args .s .now in let o = c .before .before .before .before .before .before .loop in (o .inv .0 - 1, o .inv .1 ++ added s (o .at) (tokenAt s (o .at)), survey-next (o .inv .2) (omega arith) (gone c)))
     (λ c. survey-end (c .before .loop .inv .2) (omega arith)))

@@ -15,14 +15,13 @@ use prog.Memory.{Memory}
 use prog.Routine.{Routine}
 use prog.Wp.{Heap, Calls, Loops, WpFn, Tables}
 use ghost.Atoms.{Atoms, sem}
-use contract.Lifetimes.{Lfts}
 use contract.Monad.{Fun, fact}
 use contract.Running.{givenOf, tables, tablesOf}
 use types.Kit.{Given, ‵, raw, _⊛_, some, later, _$_, _∵_, !, qed, by, move, drop, use1, rewrite, split, join, pick, fsplit, fjoin, suffices, frame, await, done}
 use types.Part.{whole, sub, look-in, agg}
 use types.Run.{look, init, forget, stop, fld, from, load, of-opd, and-then, no-more, assigns, land, returns, enter, alloc1, alloc0, params1, pass1, pass0, free1, free0}
 use sound.WpLaws.{FmC, fmOf, WpFn-mono}
-use denote.RattleType.{RattleType, owns}
+use denote.RattleType.{owns}
 use denote.Laws.{Is, shows}
 use denote.Plain.{uint-makes, uint-lawful}
 use denote.Builtin.{usize}
@@ -45,6 +44,7 @@ use Rattle.tokens.specs.declared.point.Reader.{Reader}
 use Rattle.tokens.specs.declared.Read.{Read}
 use Rattle.tokens.proofs.point.Reader as T
 use Rattle.tokens.proofs.point.Reader.Laws as T′
+use Rattle.tokens.proofs.Pointed.{B}
 use Rattle.tokens.proofs.Read as S
 use Rattle.tokens.proofs.Read.Laws as S′
 use Rattle.tokens.proofs.point.next_of as step
@@ -55,10 +55,6 @@ use Rattle.tokens.proofs.point.past.Key.{name as #tokens·past}
 use Rattle.tokens.proofs.point.past as past
 use Rattle.tokens.proofs.point.past.Statement as stated
 use Rattle.tokens.proofs.point.past.Code as code
-
--- the struct's type, over the signature's lifetimes
-abbrev B : Lfts 1 → RattleType
-B κs = T.the-row (namedLft 1 0 tt κs)
 
 abbrev stayed : Stays (past.ended .signature .params) (past.ended .kept)
 stayed = (stay-none B yes, (stay-none (λ _. S.the-row) yes, tt))
