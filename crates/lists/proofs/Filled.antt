@@ -12,13 +12,14 @@ use Rattle.tokens.specs.declared.Read.{Read}
 use Rattle.tokens.specs.declared.Read.the-variants.{Number, Identifier, String, Operator, Comment, Unread}
 use Rattle.tokens.specs.declared.Refusal.{Refusal}
 use Rattle.tokens.specs.Token.{tokenAt}
+use Rattle.tokens.specs.Point.{nextOf}
 use Rattle.numbers.proofs.Cond.{either}
 use Rattle.tokens.proofs.Told.{Told}
 use Rattle.lists.specs.declared.Place.{Place}
 use Rattle.lists.specs.Tokens.{Token}
 use Rattle.lists.specs.Reading.{Got, got, refused, onRead, readFrom}
 use Rattle.lists.specs.Promise.{textsOf, listOf}
-use Rattle.lists.specs.Filling.{added, nextOf, Holds, tokensGot, Whole, Put, Room, Fills}
+use Rattle.lists.specs.Filling.{added, Holds, tokensGot, Whole, Put, Room, Fills}
 use Rattle.lists.proofs.Surveying.{texts-append, list-append, reaches, on-go, read-ended, read-stop, read-went}
 
 -- ---- the tables only grow

@@ -15,13 +15,14 @@ use Rattle.tokens.specs.declared.Read.{Read}
 use Rattle.tokens.specs.declared.Read.the-variants.{Number, Identifier, String, Operator, Comment, Unread}
 use Rattle.tokens.specs.declared.Refusal.{Refusal}
 use Rattle.tokens.specs.Joined.{joinedAt, FitsText}
+use Rattle.tokens.specs.Point.{nextOf}
 use Rattle.tokens.specs.Text.{every, isName}
 use Rattle.tokens.specs.declared.Rule.the-variants.{Plain, Named}
 use Rattle.tokens.proofs.Told.{Told, Text}
 use Rattle.lists.specs.Tokens.{Token, number, operator}
 use Rattle.tokens.specs.Joined.{dataOf}
 use Rattle.lists.specs.Promise.{fourWords, textOf, textsOf, wordsOf, listOf}
-use Rattle.lists.specs.Filling.{shown, textToken, added, nextOf, Whole, Put, Room}
+use Rattle.lists.specs.Filling.{shown, textToken, added, Whole, Put, Room}
 use Rattle.lists.proofs.SameTables.{words-length}
 use Rattle.lists.proofs.Surveying.{text-one, text-of, text-length}
 
@@ -57,11 +58,11 @@ pub record IsText (s : List ℕ) (at : ℕ) (t : Read) (lower : Bool) (kind len 
 
 module _ (s : List ℕ) (at : ℕ) (t : Read) (known : Told s at t) {len next : ℕ} where
   pub identifier-is : t ≡ Identifier len next → IsText s at t true 2 len next
-  unfolding added nextOf textToken shown wordsOf
+  unfolding added textToken shown wordsOf
   identifier-is e = record { rule = isName Named; adds = rw e; ends = rw e; told = subst (Told s at) e known; words = λ o d. refl }
 
   pub string-is : t ≡ String len next → IsText s at t false 3 len next
-  unfolding added nextOf textToken shown wordsOf
+  unfolding added textToken shown wordsOf
   string-is e = record { rule = every Plain; adds = rw e; ends = rw e; told = subst (Told s at) e known; words = λ o d. refl }
 
 -- ---- what is put
@@ -89,7 +90,7 @@ module _ {s : List ℕ} {at : ℕ} {t : Read} {p o : ℕ} {list text : List ℕ}
   number-room {value} e = (one-room (number value) (rw e)) .0
 
   pub number-put : {value : numbers.Number} {next : ℕ} → t ≡ Number value next → {list′ : List ℕ} → list′ ≡ sets list p (fourWords 1 (ofZ w32 (value .num)) (value .den)) → Put s at t p o list list′ text text (record { at = next; p = p + 16; o = o })
-  unfolding added nextOf textOf wordsOf
+  unfolding added textOf wordsOf
   number-put {value} {next} e {list′} l = made list′ text (number value) next o (rw e) (rw e) l refl (omega arith)
 
   pub operator-room : {n next : ℕ} → t ≡ Operator n next → p + 16 ≤ length list
@@ -97,11 +98,11 @@ module _ {s : List ℕ} {at : ℕ} {t : Read} {p o : ℕ} {list text : List ℕ}
   operator-room {n} e = (one-room (operator n) (rw e)) .0
 
   pub operator-put : {n next : ℕ} → t ≡ Operator n next → {list′ : List ℕ} → list′ ≡ sets list p (fourWords 4 n 0) → Put s at t p o list list′ text text (record { at = next; p = p + 16; o = o })
-  unfolding added nextOf textOf wordsOf
+  unfolding added textOf wordsOf
   operator-put {n} {next} e {list′} l = made list′ text (operator n) next o (rw e) (rw e) l refl (omega arith)
 
   pub comment-put : {next : ℕ} → t ≡ Comment next → Put s at t p o list list text text (record { at = next; p = p; o = o })
-  unfolding added nextOf listOf textsOf
+  unfolding added listOf textsOf
   comment-put e = record { to = rw e; list-place = rw e (omega arith); text-place = rw e (omega arith); list-is = rw e; text-is = rw e }
 
   pub no-refusal : {refusal : Refusal} {place : ℕ} → t ≡ Unread refusal place → ⊥

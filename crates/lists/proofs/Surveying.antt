@@ -12,6 +12,7 @@ use Rattle.tokens.specs.declared.Read.the-variants.{Number, Identifier, String,
 use Rattle.tokens.specs.declared.Refusal.{Refusal}
 use Rattle.tokens.specs.Joined.{joinedAt}
 use Rattle.tokens.specs.Token.{tokenAt}
+use Rattle.tokens.specs.Point.{nextOf}
 use Rattle.tokens.proofs.Told.{Told, Text}
 use Rattle.lists.specs.declared.Step.{Step}
 use Rattle.lists.specs.declared.Step.the-variants.{Go, Stop}
@@ -20,7 +21,7 @@ use Rattle.lists.specs.Tokens.{Token}
 use Rattle.lists.specs.Reading.{Got, got, refused, onRead, readFrom}
 use Rattle.tokens.specs.Joined.{dataOf}
 use Rattle.lists.specs.Promise.{textOf, textsOf, wordsOf, listOf}
-use Rattle.lists.specs.Filling.{stepOf, surveyOf, shown, textToken, added, nextOf, Whole}
+use Rattle.lists.specs.Filling.{stepOf, surveyOf, shown, textToken, added, Whole}
 use Rattle.lists.proofs.ReadWrite.{read-turn}
 use Rattle.lists.proofs.Copying.{shown-length}
 
@@ -72,7 +73,7 @@ Steps s at t (Go a m n) = Goes s at t a m n
 Steps s at t (Stop refusal place) = t ≡ Unread refusal place
 
 pub steps : (s : List ℕ) (at : ℕ) (t : Read) → Told s at t → Steps s at t (stepOf t)
-unfolding nextOf added textsOf textOf textToken shown
+unfolding added textsOf textOf textToken shown
 steps s at (Number value next) k = record { is-whole = tt; to-next = refl; adds = refl; text = refl; few = omega arith; later = omega (arith, k .1 .0); inside = k .1 .1 }
 steps s at (Identifier len next) k = record { is-whole = tt; to-next = refl; adds = refl; text = texts-length true k; few = omega arith; later = k .longer; inside = k .inside }
 steps s at (String count next) k = record { is-whole = tt; to-next = refl; adds = refl; text = texts-length false k; few = omega arith; later = k .longer; inside = k .inside }
@@ -89,7 +90,7 @@ reaches s at t k w = by-step (stepOf t) (steps s at t k)
     by-step (Stop refusal place) g = absurd (subst Whole g w)
 
 pub on-go : (s : List ℕ) (at : ℕ) (ts : List Token) (t : Read) (more : ℕ → List Token → Got) → Whole t → onRead s at ts t more ≡ more (nextOf at t) (ts ++ added s at t)
-unfolding onRead nextOf added
+unfolding onRead added
 on-go s at ts (Number value next) more w = refl
 on-go s at ts (Identifier len next) more w = refl
 on-go s at ts (String count next) more w = refl

@@ -11,6 +11,7 @@ use Rattle.tokens.specs.declared.Read.the-variants.{Number, Identifier, String,
 use Rattle.tokens.specs.Text.{lowered}
 use Rattle.tokens.specs.Joined.{whole, joinedAt}
 use Rattle.tokens.specs.Token.{tokenAt}
+use Rattle.tokens.specs.Point.{nextOf}
 use Rattle.lists.specs.declared.Place.{Place}
 use Rattle.lists.specs.declared.Step.{Step}
 use Rattle.lists.specs.declared.Step.the-variants.{Go, Stop}
@@ -61,14 +62,6 @@ added s at (String count next) = string (dataOf (joinedAt s at)) ∷ []
 added s at (Operator n next) = operator n ∷ []
 added s at (Comment next) = []
 added s at (Unread refusal place) = []
-
-unfoldable pub nextOf : ℕ → Read → ℕ
-nextOf at (Number value next) = next
-nextOf at (Identifier len next) = next
-nextOf at (String count next) = next
-nextOf at (Operator n next) = next
-nextOf at (Comment next) = next
-nextOf at (Unread refusal place) = at
 
 -- a token that was read, and not a refusal
 abbrev pub Whole : Read → Type 0

@@ -24,15 +24,17 @@ fn is_solid(s: &[u8], at: usize) -> bool
     tokens::bits::low5(s[at]) != 6
 }
 
-// Past comments, each read as a token.
+// Past comments, each read as a token: the reading point is handed on from one to the next.
 fn pass_comments(s: &[u8], at: usize) -> usize
     ensures { λ r. ⌜ r ≡ solid (now (s .entry)) at ⌝ }
 {
     let mut p = at;
     loop {
-        match tokens::reading::read_token(s, p) {
-            Read::Comment { next } => {
-                p = next;
+        let taken = tokens::point::take(s, p);
+        let token = taken.token;
+        match token {
+            Read::Comment { next: _ } => {
+                p = taken.next;
             }
             Read::Number { value: _, next: _ } => {
                 return p;

@@ -13,4 +13,5 @@ pub mod OnePiece
 pub mod Ends
 pub mod Told
 pub mod Numbers
+pub mod Pointed
 pub mod Theorems

@@ -9,6 +9,7 @@ pub mod sequences; // a sequence with its continuations
 pub mod forms; // the form of the token at a place
 pub mod reading; // the token at a place
 pub mod passing; // a sequence passed over, judged but not kept
+pub mod point; // the reading point, handed from token to token
 
 // Why an input is refused. specs/Refusal.antt has the numbers.
 pub enum Refusal {
