@@ -77,7 +77,7 @@ solid-fits s at m h l = ⊎-elim (λ e. omega arith) (λ k. omega arith) (commen
 
 -- ---- where the next literal stands is inside the bytes
 
-solid-inside : (s : List ℕ) (at : ℕ) → at ≤ length s → solid s at ≤ length s
+pub solid-inside : (s : List ℕ) (at : ℕ) → at ≤ length s → solid s at ≤ length s
 solid-inside s at h = ⊎-elim (λ e. omega arith) (λ k. k) (comments-end s at (solid s at) (comments-are s at))
 
 went-next : (b : List ℕ) (n start : ℕ) (w : Went) → WentIn (length b) 0 w → holdingBy b n start w .next ≤ length b

@@ -77,3 +77,17 @@ pub fn spell_of(
     }
     state::letters::spell(w, r, pre, pre.len())
 }
+
+// The bytes of an origin.
+pub fn bytes_of<'a>(pre: &'a [u8], body: &'a [u8], origin: u32) -> &'a [u8]
+    ensures { λ r. ⌜ now r ≡ bytesOf (both (now (pre .entry)) (now (body .entry))) origin ⌝ }
+{
+    if origin == 0 {
+        return pre;
+    }
+    if origin == 1 {
+        return body;
+    }
+    let none: usize = 0;
+    &pre[none..none]
+}
