@@ -1,15 +1,17 @@
-// Bodies and literals. In order: comments passed over; the operator that is due; a body and a literal, each by the other.
+// Bodies and literals. In order: comments passed over; the operator that is due; a body and its literals, each by the other.
 ghost use mathlib.Core.Path.{_≡_};
 ghost use mathlib.Core.Bool.{true};
-ghost use Rattle.tokens.specs.declared.Refusal.the-variants.{NotAllowed};
+ghost use Rattle.tokens.specs.declared.Refusal.the-variants.{CutOff, NotAllowed};
 ghost use Rattle.tokens.specs.Token.{tokenAt};
 ghost use Rattle.machine.specs.declared.Went.the-variants.{Stop};
 ghost use Rattle.machine.proofs.Comments.{NoComment};
-ghost use Rattle.machine.specs.Skeleton.{solid, dueBy, due, bodyAt, literalAt};
+ghost use lib.ListN.{length};
+ghost use Rattle.machine.specs.Skeleton.{solid, dueBy, due, literalsFrom, bodyAt, literalAt};
 use crate::roles;
-use machine::Passed;
 use machine::Role;
 use machine::Went;
+use tokens::Form;
+use tokens::Pass;
 use tokens::Read;
 
 // By its first byte alone, no comment stands at `at`.
@@ -73,23 +75,33 @@ fn not_allowed(place: usize) -> Went
     }
 }
 
+fn cut_off(place: usize) -> Went
+    ensures { λ r. ⌜ r ≡ Stop CutOff place ⌝ }
+{
+    Went::Stop {
+        refusal: tokens::Refusal::CutOff,
+        place,
+    }
+}
+
 // Past the operator n, which is due at `at`.
 fn due_here(n: u16, s: &[u8], at: usize) -> Went
     ensures { λ r. ⌜ r ≡ dueBy n at (tokenAt (now (s .entry)) at) ⌝ }
 {
-    match tokens::reading::read_token(s, at) {
-        Read::Operator { number, next } => {
+    match tokens::forms::form_at(s, at) {
+        Form::Operator { number, next } => {
             if number == n {
                 Went::Past { next }
             } else {
                 not_allowed(at)
             }
         }
-        Read::Number { value: _, next: _ } => not_allowed(at),
-        Read::Identifier { len: _, next: _ } => not_allowed(at),
-        Read::String { count: _, next: _ } => not_allowed(at),
-        Read::Comment { next: _ } => not_allowed(at),
-        Read::Unread { refusal, place } => Went::Stop { refusal, place },
+        Form::Number { raw: _, next: _ } => not_allowed(at),
+        Form::Sequence => match tokens::passing::pass_sequence(s, at) {
+            Pass::Over { next: _ } => not_allowed(at),
+            Pass::Unread { refusal, place } => Went::Stop { refusal, place },
+        },
+        Form::Cut => cut_off(at),
     }
 }
 
@@ -105,57 +117,42 @@ pub fn body(s: &[u8], at: usize, left: usize) -> Went
     ensures { λ r. ⌜ r ≡ bodyAt left (now (s .entry)) at ⌝ }
 {
     let q = past_comments(s, at);
-    let mut p: usize;
     match due_here(roles::OPEN, s, q) {
         Went::Past { next } => {
-            p = next;
-        }
-        Went::Stop { refusal, place } => {
-            return Went::Stop { refusal, place };
-        }
-    }
-    if left == 0 {
-        return Went::Stop {
-            refusal: tokens::Refusal::TooDeep,
-            place: q,
-        };
-    }
-    loop {
-        match literal(s, p, left - 1) {
-            Passed::On { next } => {
-                p = next;
+            if left == 0 {
+                return Went::Stop {
+                    refusal: tokens::Refusal::TooDeep,
+                    place: q,
+                };
             }
-            Passed::Closed { next } => {
-                return Went::Past { next };
-            }
-            Passed::Bad { refusal, place } => {
-                return Went::Stop { refusal, place };
-            }
+            literals(s, next, left - 1)
         }
+        Went::Stop { refusal, place } => Went::Stop { refusal, place },
     }
 }
 
-// The literal, or the comment, at `at` of a body in which `left` more bodies may be open.
-fn literal(s: &[u8], at: usize, left: usize) -> Passed
-    ensures { λ r. ⌜ r ≡ literalAt left (now (s .entry)) at ⌝ }
+// Literals and comments from `at` on, up to the `}` of a body in which `left` more bodies may be open.
+fn literals(s: &[u8], at: usize, left: usize) -> Went
+    ensures { λ r. ⌜ r ≡ literalsFrom (length (now (s .entry))) (literalAt left (now (s .entry))) at ⌝ }
 {
-    match tokens::reading::read_token(s, at) {
-        Read::Operator { number, next } => match roles::role_of(number) {
-            Role::Plain => Passed::On { next },
-            Role::Holds => match body(s, next, left) {
-                Went::Past { next: past } => Passed::On { next: past },
-                Went::Stop { refusal, place } => Passed::Bad { refusal, place },
+    let mut p = at;
+    loop {
+        p = match tokens::forms::form_at(s, p) {
+            Form::Number { raw: _, next } => next,
+            Form::Operator { number, next } => match roles::role_of(number) {
+                Role::Plain => next,
+                Role::Closes => return Went::Past { next },
+                Role::Holds => match body(s, next, left) {
+                    Went::Past { next: past } => past,
+                    Went::Stop { refusal, place } => return Went::Stop { refusal, place },
+                },
+                Role::Barred => return not_allowed(p),
             },
-            Role::Closes => Passed::Closed { next },
-            Role::Barred => Passed::Bad {
-                refusal: tokens::Refusal::NotAllowed,
-                place: at,
+            Form::Sequence => match tokens::passing::pass_sequence(s, p) {
+                Pass::Over { next } => next,
+                Pass::Unread { refusal, place } => return Went::Stop { refusal, place },
             },
-        },
-        Read::Number { value: _, next } => Passed::On { next },
-        Read::Identifier { len: _, next } => Passed::On { next },
-        Read::String { count: _, next } => Passed::On { next },
-        Read::Comment { next } => Passed::On { next },
-        Read::Unread { refusal, place } => Passed::Bad { refusal, place },
+            Form::Cut => return cut_off(p),
+        };
     }
 }

@@ -9,6 +9,7 @@ pub mod Sizes
 pub mod Turns
 pub mod Copying
 pub mod Judged
+pub mod OnePiece
 pub mod Ends
 pub mod Told
 pub mod Numbers

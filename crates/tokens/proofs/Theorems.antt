@@ -2,8 +2,8 @@
 -- answer; what a token says of itself; the proved bench cases. Work: Told.antt, Ends.antt. Assumes nothing.
 use mathlib.Core.Path.{_≡_, refl, sym, _∙_}
 use mathlib.Core.List.{List}
-use Prim.Native.Nat.{ℕ, _≤_}
-use lib.ListN.{length}
+use Prim.Native.Nat.{ℕ, _%_, _<_, _≤_}
+use lib.ListN.{length, getD}
 use borrow.Author.Tests.{le-ltb}
 use Rattle.numbers.specs.Each.{Each, _&_}
 use Rattle.numbers.specs.Gcd.{gcdTurns, gcdOf}
@@ -21,6 +21,7 @@ use Rattle.tokens.specs.Token.{numberRead, judged, sequence, tokenOf, to
 use Rattle.tokens.specs.Cases.{Case, cases}
 use Rattle.table.proofs.WordLists.{Bytes}
 use Rattle.tokens.proofs.Told.{Told, Tells, token-told, token-tells}
+use Rattle.tokens.proofs.OnePiece.{sequence-is}
 use Rattle.tokens.proofs.Numbers.{same-number}
 
 -- THEOREM (demand 1). Two refusals of one number are one refusal.
@@ -44,6 +45,10 @@ token-tells-all s at = token-tells s at
 pub token-end : (s : List ℕ) (at : ℕ) → length s ≤ at → tokenAt s at ≡ Unread CutOff at
 unfolding tokenAt
 token-end s at h = rw (le-ltb at (length s) h)
+
+-- THEOREM (for the layers above). A first byte from 192 on begins a sequence.
+pub token-sequence : (s : List ℕ) (at : ℕ) → at < length s → 192 ≤ getD s at 0 → tokenAt s at ≡ sequence (getD s at 0 % 32) at (joinedAt s at)
+token-sequence s at h k = sequence-is s at h k
 
 -- THEOREM (demand 2). Every P case of 01 on tokens, and its neighbours, by computation.
 pub cases-hold : Each (λ (c : Case). tokenAt (c .bytes) 0 ≡ c .token) cases

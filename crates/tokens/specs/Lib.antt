@@ -5,4 +5,5 @@ pub mod Text
 pub mod Joined
 pub mod Token
 pub mod Inner
+pub mod Passing
 pub mod Cases

@@ -6,7 +6,9 @@ pub mod bits; // fields of a token's first bytes
 mod values; // bytes high byte first, two's complement
 pub mod text; // strings and identifiers
 pub mod sequences; // a sequence with its continuations
+pub mod forms; // the form of the token at a place
 pub mod reading; // the token at a place
+pub mod passing; // a sequence passed over, judged but not kept
 
 // Why an input is refused. specs/Refusal.antt has the numbers.
 pub enum Refusal {
@@ -41,6 +43,20 @@ pub enum Read {
     String { count: usize, next: usize },
     Operator { number: u16, next: usize },
     Comment { next: usize },
+    Unread { refusal: Refusal, place: usize },
+}
+
+// The form of the token at a place, by its first byte: a short number with its 15 bits, an operator, a sequence; or cut off.
+pub enum Form {
+    Number { raw: u16, next: usize },
+    Operator { number: u16, next: usize },
+    Sequence,
+    Cut,
+}
+
+// A token passed over: the place after it; or the refusal met, and its place.
+pub enum Pass {
+    Over { next: usize },
     Unread { refusal: Refusal, place: usize },
 }
 

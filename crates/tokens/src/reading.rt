@@ -12,15 +12,14 @@ ghost use Rattle.tokens.specs.Text.{isLetter};
 ghost use Rattle.tokens.specs.Joined.{joinedAt};
 ghost use Rattle.tokens.specs.Token.{numberRead, integerSize, rationalSize, ruled, tokenAt, sequence};
 ghost use Rattle.tokens.specs.Inner.{Fitting, judgedBy, rationalBy};
+use crate::Form;
 use crate::Gathered;
 use crate::Piece;
 use crate::Read;
 use crate::Refusal;
 use crate::Summary;
-use crate::bits::class_of;
 use crate::bits::low5;
-use crate::bits::op_number;
-use crate::bits::short15;
+use crate::forms::form_at;
 use crate::sequences::gather;
 use crate::sequences::piece_at;
 use crate::text::is_letter;
@@ -187,16 +186,16 @@ fn sequence_at(s: &[u8], at: usize) -> Read
 }
 
 // A short number: 15 bits less 4000.
-fn short_number(a: u8, b: u8) -> i32
-    ensures { λ r. ⌜ r ≡ pos (a % 128 * 256 + b) -ℤ pos bias ⌝ }
+fn short_number(raw: u16) -> i32
+    ensures { λ r. ⌜ r ≡ pos raw -ℤ pos bias ⌝ }
 {
-    (short15(a, b) as i32) - 4000
+    (raw as i32) - 4000
 }
 
-fn number_token(a: u8, b: u8, next: usize) -> Read
-    ensures { λ r. ⌜ r ≡ Read.Number (record { num = pos (a % 128 * 256 + b) -ℤ pos bias; den = 1 }) next ⌝ }
+fn number_token(raw: u16, next: usize) -> Read
+    ensures { λ r. ⌜ r ≡ Read.Number (record { num = pos raw -ℤ pos bias; den = 1 }) next ⌝ }
 {
-    let num = short_number(a, b);
+    let num = short_number(raw);
     Read::Number {
         value: numbers::Number { num, den: 1 },
         next,
@@ -207,31 +206,18 @@ fn number_token(a: u8, b: u8, next: usize) -> Read
 pub fn read_token(s: &[u8], at: usize) -> Read
     ensures { λ r. ⌜ r ≡ tokenAt (now (s .entry)) at ⌝ }
 {
-    if s.len() <= at {
-        return cut_off(at);
-    }
-    let b = s[at];
-    let class = class_of(b);
-    if class < 4 {
-        if s.len() - at < 2 {
+    match form_at(s, at) {
+        Form::Number { raw, next } => {
+            return number_token(raw, next);
+        }
+        Form::Operator { number, next } => {
+            return Read::Operator { number, next };
+        }
+        Form::Sequence => {
+            return sequence_at(s, at);
+        }
+        Form::Cut => {
             return cut_off(at);
         }
-        return number_token(b, s[at + 1], at + 2);
     }
-    if class == 4 {
-        return Read::Operator {
-            number: low5(b) as u16,
-            next: at + 1,
-        };
-    }
-    if class == 5 {
-        if s.len() - at < 2 {
-            return cut_off(at);
-        }
-        return Read::Operator {
-            number: op_number(b, s[at + 1]),
-            next: at + 2,
-        };
-    }
-    sequence_at(s, at)
 }

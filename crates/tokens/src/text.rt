@@ -59,19 +59,20 @@ fn obeys_rule(rule: Rule, b: u8) -> bool
     }
 }
 
-// Every byte of the part obeys the rule.
+// Every byte of the part obeys the rule. The loop has no way out, so that many bytes are compared at once.
 pub fn all_obey(rule: Rule, s: &[u8], start: usize, len: usize) -> bool
     requires { ⌜ start + len ≤ length (now s) ⌝ }
     ensures { λ r. ⌜ r ≡ every rule (slice start (start + len) (now (s .entry))) ⌝ }
 {
+    let mut good = true;
     let mut i: usize = 0;
     while i < len {
         if !obeys_rule(rule, s[start + i]) {
-            return false;
+            good = false;
         }
         i += 1;
     }
-    true
+    good
 }
 
 // Upper case reads as lower.

@@ -1,40 +1,35 @@
--- `bodies::due_here` meets its contract: the token, case by case. Assumes nothing.
+-- `bodies::due_here` meets its contract: the token by its form, case by case. Assumes nothing.
+use mathlib.Core.Path.{_∙_}
 use borrow.Author.Tests.{eq-eqb, ne-eqb}
 use borrow.Author.Needs.{needs}
 use Rattle.machine.specs.Skeleton.{dueBy}
+use Rattle.skeleton.proofs.BodyTurns.{number-shown, operator-shown, sequence-shown, cut-shown, passed-due, stoppedBy}
 use Rattle.skeleton.proofs.bodies.due_here.Statement.{statement}
 use Rattle.skeleton.proofs.bodies.due_here.Tie as tie
 
-enum-told : tie.Need-enum-told
-enum-told c = search needs
-
 returns : tie.Need-returns
 unfolding dueBy
-returns c = rw (← c .before .before .before .before .read-token .ensures, c .before .before .number .given .1, eq-eqb _ _ (c .if1 .taken))
+returns c = rw (operator-shown _ _ _ _ _ (c .before .before .number .given .1) (c .before .before .before .before .form-at .ensures), eq-eqb _ _ (c .if1 .taken))
 
 returns-2 : tie.Need-returns-2
 unfolding dueBy
-returns-2 c = rw (← c .before .before .before .before .before .read-token .ensures, c .before .before .before .number .given .1, ne-eqb _ _ (c .before .if1 .left), c .not-allowed .ensures)
+returns-2 c = rw (operator-shown _ _ _ _ _ (c .before .before .before .number .given .1) (c .before .before .before .before .before .form-at .ensures), ne-eqb _ _ (c .before .if1 .left), c .not-allowed .ensures)
 
 returns-3 : tie.Need-returns-3
 unfolding dueBy
-returns-3 c = rw (← c .before .before .before .read-token .ensures, c .before .enum-told .given .1, c .not-allowed2 .ensures)
+returns-3 c = rw (number-shown _ _ _ _ _ (c .before .enum-told .given .1) (c .before .before .before .form-at .ensures), c .not-allowed2 .ensures)
 
 returns-4 : tie.Need-returns-4
-unfolding dueBy
-returns-4 c = rw (← c .before .before .before .read-token .ensures, c .before .enum-told2 .given .1, c .not-allowed3 .ensures)
+unfolding stoppedBy
+returns-4 c = c .not-allowed3 .ensures ∙ passed-due _ _ _ (c .before .before .before .before .before .before .before .before .args .n) _ _ (c .before .before .before .before .enum-told2 .given .1) (c .before .before .before .before .before .before .form-at .ensures) (c .before .before .before .pass-sequence .ensures) (c .before .enum-told3 .given .1)
 
 returns-5 : tie.Need-returns-5
-unfolding dueBy
-returns-5 c = rw (← c .before .before .before .read-token .ensures, c .before .enum-told3 .given .1, c .not-allowed4 .ensures)
+unfolding stoppedBy
+returns-5 c = passed-due _ _ _ (c .before .before .before .before .before .before .before .before .args .n) _ _ (c .before .before .before .before .enum-told2 .given .1) (c .before .before .before .before .before .before .form-at .ensures) (c .before .before .before .pass-sequence .ensures) (c .before .refusal .given .1)
 
 returns-6 : tie.Need-returns-6
 unfolding dueBy
-returns-6 c = rw (← c .before .before .before .read-token .ensures, c .before .enum-told4 .given .1, c .not-allowed5 .ensures)
-
-returns-7 : tie.Need-returns-7
-unfolding dueBy
-returns-7 c = rw (← c .before .before .before .read-token .ensures, c .before .refusal .given .1)
+returns-6 c = rw (cut-shown _ _ _ (c .before .enum-told4 .given .1) (c .before .before .before .form-at .ensures), c .cut-off .ensures)
 
 pub due-here-spec : {M : Type 1} → statement M
 due-here-spec =
@@ -43,19 +38,18 @@ due-here-spec =
     (λ c κs. search needs)
     (λ c. search needs)
     (λ c κs. search needs)
-    enum-told
-    (λ c κs. search needs)
     (λ c. search needs)
     (λ c κs. search needs)
     (λ c. search needs)
-    (λ c κs. search needs)
+    (λ c κs. sequence-shown _ _ _ (c .enum-told2 .given .1) (c .before .before .form-at .ensures))
     (λ c. search needs)
     (λ c κs. search needs)
     (λ c. search needs)
+    (λ c. search needs)
+    (λ c κs. search needs)
     returns
     returns-2
     returns-3
     returns-4
     returns-5
-    returns-6
-    returns-7)
+    returns-6)

@@ -1,68 +1,56 @@
-use Prim.Native.Nat.{_+_}
-use lib.ListN.{length, getD}
-use Rattle.tokens.specs.Token.{tokenAt, tokenOf}
-use borrow.Author.Tests.{le-ltb, lt-ltb}
-use native.Mathlib.Omega.{arith}
-use mathlib.Core.Path.{_∙_}
+-- `reading::read_token` meets its contract: by the form. Assumes nothing.
+use Prim.Native.Nat.{ℕ}
+use mathlib.Core.Path.{_≡_, sym, _∙_}
 use borrow.Author.Needs.{needs}
+use Rattle.tokens.specs.declared.Form.the-variants.{Number, Operator, Sequence, Cut}
+use Rattle.tokens.specs.Passing.{Shows}
+use Rattle.tokens.proofs.OnePiece.{sequence-is}
 use Rattle.tokens.proofs.reading.read_token.Statement.{statement}
 use Rattle.tokens.proofs.reading.read_token.Tie as tie
 
 returns : tie.Need-returns
-unfolding tokenAt tokenOf
-returns c = let a = c .before .before .before .args in c .cut-off .ensures ∙ simp (le-ltb (a .at) (length (a .s .now)) (omega arith))
+returns c =
+    let a = c .before .before .before .before .before .before .args in
+    let g : Shows (a .s .now) (a .at) (Number (c .before .before .raw .given .0 .0) (c .before .before .raw .given .0 .1 .0)) = rw (c .before .before .raw .given .1) at (c .before .before .before .before .form-at .ensures) in
+    c .number-token .ensures ∙ sym g
 
 returns-2 : tie.Need-returns-2
-unfolding tokenAt tokenOf
-returns-2 c = let a = c .before .before .before .before .before .before .before .args in c .cut-off2 .ensures ∙ simp (lt-ltb (a .at) (length (a .s .now)) (omega arith), lt-ltb (getD (a .s .now) (a .at) 0) 128 (omega arith), le-ltb (a .at + 1) (length (a .s .now)) (omega arith))
+returns-2 c =
+    let a = c .before .before .before .before .before .args in
+    let g : Shows (a .s .now) (a .at) (Operator (c .before .number .given .0 .0) (c .before .number .given .0 .1 .0)) = rw (c .before .number .given .1) at (c .before .before .before .form-at .ensures) in
+    sym g
+
+sequence-at-requires : tie.Need-sequence-at-requires
+sequence-at-requires c κs =
+    let a = c .before .before .before .before .args in
+    let g : Shows (a .s .now) (a .at) Sequence = rw (c .enum-told .given .1) at (c .before .before .form-at .ensures) in
+    g .0
 
 returns-3 : tie.Need-returns-3
-unfolding tokenAt tokenOf
-returns-3 c = let a = c .before .before .before .before .before .before .before .before .args in c .number-token .ensures ∙ simp (lt-ltb (a .at) (length (a .s .now)) (omega arith), lt-ltb (getD (a .s .now) (a .at) 0) 128 (omega arith), lt-ltb (a .at + 1) (length (a .s .now)) (omega arith))
+returns-3 c =
+    let a = c .before .before .before .before .before .args in
+    let g : Shows (a .s .now) (a .at) Sequence = rw (c .before .enum-told .given .1) at (c .before .before .before .form-at .ensures) in
+    c .sequence-at .ensures ∙ sym (sequence-is (a .s .now) (a .at) (g .0) (g .1))
 
 returns-4 : tie.Need-returns-4
-unfolding tokenAt tokenOf
-returns-4 c = let a = c .before .before .before .before .before .before .before .args in simp (lt-ltb (a .at) (length (a .s .now)) (omega arith), le-ltb (getD (a .s .now) (a .at) 0) 128 (omega arith), lt-ltb (getD (a .s .now) (a .at) 0) 160 (omega arith), c .low5 .ensures)
-
-returns-5 : tie.Need-returns-5
-unfolding tokenAt tokenOf
-returns-5 c = let a = c .before .before .before .before .before .before .before .before .before .args in c .cut-off3 .ensures ∙ simp (lt-ltb (a .at) (length (a .s .now)) (omega arith), le-ltb (getD (a .s .now) (a .at) 0) 128 (omega arith), le-ltb (getD (a .s .now) (a .at) 0) 160 (omega arith), lt-ltb (getD (a .s .now) (a .at) 0) 192 (omega arith), le-ltb (a .at + 1) (length (a .s .now)) (omega arith))
-
-returns-6 : tie.Need-returns-6
-unfolding tokenAt tokenOf
-returns-6 c = let a = c .before .before .before .before .before .before .before .before .before .before .args in simp (lt-ltb (a .at) (length (a .s .now)) (omega arith), le-ltb (getD (a .s .now) (a .at) 0) 128 (omega arith), le-ltb (getD (a .s .now) (a .at) 0) 160 (omega arith), lt-ltb (getD (a .s .now) (a .at) 0) 192 (omega arith), lt-ltb (a .at + 1) (length (a .s .now)) (omega arith), c .op-number .ensures)
-
-returns-7 : tie.Need-returns-7
-unfolding tokenAt tokenOf
-returns-7 c = let a = c .before .before .before .before .before .before .before .before .args in c .sequence-at .ensures ∙ simp (lt-ltb (a .at) (length (a .s .now)) (omega arith), le-ltb (getD (a .s .now) (a .at) 0) 128 (omega arith), le-ltb (getD (a .s .now) (a .at) 0) 160 (omega arith), le-ltb (getD (a .s .now) (a .at) 0) 192 (omega arith))
+returns-4 c =
+    let a = c .before .before .before .before .before .args in
+    let g : Shows (a .s .now) (a .at) Cut = rw (c .before .enum-told2 .given .1) at (c .before .before .before .form-at .ensures) in
+    c .cut-off .ensures ∙ sym g
 
 pub read-token-spec : {M : Type 1} → statement M
 read-token-spec =
     tie.close
     (tie.spec
     (λ c κs. search needs)
+    (λ c. search needs)
+    (λ c κs. search needs)
     returns
     (λ c. search needs)
-    (λ c κs. search needs)
-    (λ c. search needs)
-    (λ c κs. search needs)
     returns-2
     (λ c. search needs)
-    (λ c. search needs)
-    (λ c. search needs)
-    (λ c κs. search needs)
+    sequence-at-requires
     returns-3
-    (λ c κs. search needs)
-    (λ c. search needs)
-    (λ c. search needs)
-    returns-4
     (λ c. search needs)
     (λ c κs. search needs)
-    returns-5
-    (λ c. search needs)
-    (λ c. search needs)
-    (λ c κs. search needs)
-    (λ c. search needs)
-    returns-6
-    (λ c κs. search needs)
-    returns-7)
+    returns-4)

@@ -1,25 +1,23 @@
 use Rattle.tokens.proofs.Signs.{mag-diff}
 use mir.Facts.{toZ-ofZ, toZ-pos}
 use mir.Syntax.{w32}
-use lib.IntN.{pos, _-ℤ_}
 use lib.Dec.{lit<}
 use native.Mathlib.Omega.{arith}
-use mathlib.Core.Path.{ap, _∙_}
+use mathlib.Core.Path.{_∙_}
 use borrow.Author.Needs.{needs}
 use Rattle.tokens.proofs.reading.short_number.Statement.{statement}
 use Rattle.tokens.proofs.reading.short_number.Tie as tie
 
 sub-result : tie.Need-sub-result
-sub-result c = rw (toZ-pos w32 {n = c .short15 .result} (omega arith)) (record { sfits = mag-diff (c .short15 .result) 4000 2147483648 (omega arith) (lit< tt) })
+sub-result c = rw (toZ-pos w32 {n = c .args .raw} (omega arith)) (record { sfits = mag-diff (c .args .raw) 4000 2147483648 (omega arith) (lit< tt) })
 
 returns : tie.Need-returns
-returns c = toZ-ofZ (sub-result c) ∙ rw (toZ-pos w32 {n = c .short15 .result} (omega arith)) (ap (λ n. pos n -ℤ pos 4000) (c .short15 .ensures))
+returns c = toZ-ofZ (sub-result c) ∙ rw (toZ-pos w32 {n = c .args .raw} (omega arith))
 
 pub short-number-spec : {M : Type 1} → statement M
 short-number-spec =
     tie.close
     (tie.spec
-    (λ c κs. search needs)
     (λ c. search needs)
     sub-result
     returns)
