@@ -3,3 +3,4 @@ pub mod Stores
 pub mod WordLists
 pub mod SlotLists
 pub mod Moves
+pub mod Runs

@@ -33,7 +33,7 @@ length-slots-of (k ∷ a ∷ b ∷ []) = omega arith
 length-slots-of (k ∷ a ∷ b ∷ c ∷ []) = omega arith
 length-slots-of (k ∷ a ∷ b ∷ c ∷ d ∷ w) = omega (arith, length-slots-of w)
 
-get-slots-of : (k : ℕ) (w : List ℕ) → 5 * k + 5 ≤ length w → mk (getD w (5 * k) 0) (getD w (5 * k + 1) 0) (getD w (5 * k + 2) 0) (getD w (5 * k + 3) 0) (getD w (5 * k + 4) 0) ≡ getD (slotsOf w) k nil
+pub get-slots-of : (k : ℕ) (w : List ℕ) → 5 * k + 5 ≤ length w → mk (getD w (5 * k) 0) (getD w (5 * k + 1) 0) (getD w (5 * k + 2) 0) (getD w (5 * k + 3) 0) (getD w (5 * k + 4) 0) ≡ getD (slotsOf w) k nil
 unfolding slotsOf
 get-slots-of k [] h = absurd (omega arith)
 get-slots-of k (x ∷ []) h = absurd (omega arith)
@@ -43,10 +43,10 @@ get-slots-of k (x ∷ a ∷ b ∷ c ∷ []) h = absurd (omega arith)
 get-slots-of zero (x ∷ a ∷ b ∷ c ∷ d ∷ w) h = refl
 get-slots-of (suc k) (x ∷ a ∷ b ∷ c ∷ d ∷ w) h = simp (five, towards-suc) (simp towards-suc at (get-slots-of k w (omega arith)))
 
-abbrev putAt : List ℕ → ℕ → Slot → List ℕ
+abbrev pub putAt : List ℕ → ℕ → Slot → List ℕ
 putAt w b v = set (set (set (set (set w b (v .kind)) (b + 1) (v .a)) (b + 2) (v .b)) (b + 3) (v .c)) (b + 4) (v .d)
 
-put-slots-of : (k : ℕ) (w : List ℕ) (v : Slot) → 5 * k + 5 ≤ length w → slotsOf (putAt w (5 * k) v) ≡ set (slotsOf w) k v
+pub put-slots-of : (k : ℕ) (w : List ℕ) (v : Slot) → 5 * k + 5 ≤ length w → slotsOf (putAt w (5 * k) v) ≡ set (slotsOf w) k v
 unfolding slotsOf
 put-slots-of k [] v h = absurd (omega arith)
 put-slots-of k (x ∷ []) v h = absurd (omega arith)

@@ -1,7 +1,7 @@
 -- The words of a table: four bytes at 4 * i are the word at i; the words pin every byte; a front of the table. Assumes nothing.
-use mathlib.Core.Path.{_≡_, refl, ap}
+use mathlib.Core.Path.{_≡_, refl, ap, _∙_}
 use mathlib.Core.List.{List, [], _∷_}
-use Prim.Native.Nat.{ℕ, zero, suc, _+_, _-_, _*_, _^_, _≤_, _<_}
+use Prim.Native.Nat.{ℕ, zero, suc, _+_, _-_, _*_, _/_, _%_, _^_, _≤_, _<_}
 use native.Mathlib.Omega.{arith}
 use native.Mathlib.Numerals.{towards-suc}
 use lib.ListN.{length, getD, set, take}
@@ -38,14 +38,18 @@ get-words i (a ∷ b ∷ c ∷ []) h = absurd (omega arith)
 get-words zero (a ∷ b ∷ c ∷ d ∷ w) h = refl
 get-words (suc i) (a ∷ b ∷ c ∷ d ∷ w) h = simp (four, towards-suc) (simp towards-suc at (get-words i w (omega arith)))
 
+pub set-words : (i : ℕ) (w : List ℕ) (x y z u : ℕ) → 4 * i + 4 ≤ length w → wordsOf (sets w (4 * i) (x ∷ y ∷ z ∷ u ∷ [])) ≡ set (wordsOf w) i (wordOf x y z u)
+unfolding wordsOf
+set-words i [] x y z u h = absurd (omega arith)
+set-words i (a ∷ []) x y z u h = absurd (omega arith)
+set-words i (a ∷ b ∷ []) x y z u h = absurd (omega arith)
+set-words i (a ∷ b ∷ c ∷ []) x y z u h = absurd (omega arith)
+set-words zero (a ∷ b ∷ c ∷ d ∷ w) x y z u h = refl
+set-words (suc i) (a ∷ b ∷ c ∷ d ∷ w) x y z u h = simp four (ap (λ (l : List ℕ). wordOf a b c d ∷ l) (set-words i w x y z u (omega arith)))
+
 pub put-words : (i : ℕ) (w : List ℕ) (x : ℕ) → x < 2 ^ 32 → 4 * i + 4 ≤ length w → wordsOf (sets w (4 * i) (wordBytes x)) ≡ set (wordsOf w) i x
-unfolding wordsOf wordBytes
-put-words i [] x f h = absurd (omega arith)
-put-words i (a ∷ []) x f h = absurd (omega arith)
-put-words i (a ∷ b ∷ []) x f h = absurd (omega arith)
-put-words i (a ∷ b ∷ c ∷ []) x f h = absurd (omega arith)
-put-words zero (a ∷ b ∷ c ∷ d ∷ w) x f h = ap (λ (y : ℕ). y ∷ wordsOf w) (word-joined x f)
-put-words (suc i) (a ∷ b ∷ c ∷ d ∷ w) x f h = simp four (ap (λ (l : List ℕ). wordOf a b c d ∷ l) (put-words i w x f (omega arith)))
+unfolding wordBytes
+put-words i w x f h = set-words i w (x % 256) (x / 256 % 256) (x / 65536 % 256) (x / 16777216 % 256) h ∙ ap (set (wordsOf w) i) (word-joined x f)
 
 -- each element is a byte
 abbrev pub Bytes : List ℕ → Type 0

@@ -41,15 +41,15 @@ pub fn put(w: &mut [u8], k: usize, v: Slot)
     emit(w, 20 * k, v);
 }
 
-// The n slots from s on to d on, the first first.
+// The n slots from s on to d on, the first first. Byte by byte: a loop of single bytes is compiled to one of vectors.
 pub fn copy(w: &mut [u8], s: usize, d: usize, n: usize)
     requires { ⌜ (20 * (s + n) ≤ length (now w)) × (20 * (d + n) ≤ length (now w)) ⌝ }
     ensures { λ _. ⌜ slots (now (w .exit)) ≡ copied (slots (now (w .entry))) s d n ⌝ }
 {
     let mut i: usize = 0;
-    while i < n {
-        let v = get(w, s + i);
-        put(w, d + i, v);
+    let most = 20 * n;
+    while i < most {
+        w[20 * d + i] = w[20 * s + i];
         i += 1;
     }
 }
