@@ -1,7 +1,7 @@
 -- Bytes by origin, and what is read of those that are not there. Assumes nothing.
 use Prim.Native.Nat.{ℕ, zero, suc, _<_, _≤_}
 use native.Mathlib.Omega.{arith}
-use mathlib.Core.Path.{_≡_, refl, _∙_}
+use mathlib.Core.Path.{_≡_, refl, sym, _∙_}
 use mathlib.Core.Logic.{_⊎_, inl, inr, ⊎-elim}
 use mathlib.Core.List.{List, [], _∷_}
 use lib.ListN.{length}
@@ -40,6 +40,9 @@ none-there : (pre body : List ℕ) (o : ℕ) → (o ≡ 0 → ⊥) → (o ≡ 1 
 none-there pre body zero f g = absurd (f refl)
 none-there pre body (suc zero) f g = absurd (g refl)
 none-there pre body (suc (suc o)) f g = refl
+
+pub nothing-there : (pre body : List ℕ) (o : ℕ) → (o ≡ 0 → ⊥) → (o ≡ 1 → ⊥) → [] ≡ bytesOf (both pre body) o
+nothing-there pre body o f g = sym (none-there pre body o f g)
 
 -- ---- no bytes
 

@@ -50,4 +50,4 @@ pub record Forth (pre body : List ℕ) (most : ℕ) (w : List ℕ) (r : Register
   pub does : abs w′ r′ ≡ run (r′ .steps - r .steps) (both pre body) (abs w r)
   pub keeps : aside w′ ≡ aside w
   pub some : r .steps < r′ .steps
-  pub most : r′ .steps ≤ r .steps + most
+  pub within : r′ .steps ≤ r .steps + most

@@ -10,9 +10,9 @@ use Rattle.machine.specs.declared.Literal.the-variants.{Figure, Name, Text, Pla
 use Rattle.machine.specs.Literal.{Found}
 use Rattle.engine.specs.declared.Brief.{Brief}
 
--- NOP, FGET, FSET, POP, DUP, EXCH, COUNT, UNMARK0, GT, DO, and ADD, SUB, MUL, DIV
+-- NOP, FGET, FSET, POP, DUP, COUNT, UNMARK0, GT, DO, and ADD, DIV, MUL, SUB
 abbrev pub swift : List ℕ
-swift = 1 ∷ 20 ∷ 21 ∷ 180 ∷ 181 ∷ 185 ∷ 188 ∷ 192 ∷ 208 ∷ 231 ∷ 201 ∷ 214 ∷ 210 ∷ 204 ∷ []
+swift = 1 ∷ 20 ∷ 21 ∷ 180 ∷ 181 ∷ 188 ∷ 192 ∷ 208 ∷ 231 ∷ 201 ∷ 204 ∷ 210 ∷ 214 ∷ []
 
 abbrev pub Swift : Literal → Type 0
 Swift (Figure a) = Unit

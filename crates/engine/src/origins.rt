@@ -9,6 +9,7 @@ ghost use Rattle.state.specs.Layout.{Busy, Tried};
 ghost use Rattle.state.specs.Operations.{spell};
 ghost use Rattle.literals.specs.Names.{both};
 ghost use Rattle.engine.specs.Bodies.{Short};
+ghost use Rattle.engine.specs.Swift.{Briefly};
 use state::Registers;
 
 pub fn length_of(pre: &[u8], body: &[u8], origin: u32) -> usize
@@ -57,6 +58,21 @@ pub fn due_of(pre: &[u8], body: &[u8], origin: u32, place: u32) -> literals::Due
     }
 }
 
+// The literal at a place, if it is a swift one.
+pub fn brief_of(pre: &[u8], body: &[u8], origin: u32, place: u32) -> crate::Brief
+    requires { ⌜ Short (now pre) (now body) ⌝ }
+    ensures { λ r. ⌜ Briefly (foundAt (bytesOf (both (now (pre .entry)) (now (body .entry))) origin) place) r ⌝ }
+{
+    let at = table::words::size(place);
+    if origin == 0 {
+        return crate::swift::brief(pre, at);
+    }
+    if origin == 1 {
+        return crate::swift::brief(body, at);
+    }
+    crate::swift::other()
+}
+
 // The string token at `at` becomes a vector; past the end of any bytes there is none.
 pub fn spell_of(
     w: &mut [u8],
@@ -76,18 +92,4 @@ pub fn spell_of(
         return state::letters::spell(w, r, body, at);
     }
     state::letters::spell(w, r, pre, pre.len())
-}
-
-// The bytes of an origin.
-pub fn bytes_of<'a>(pre: &'a [u8], body: &'a [u8], origin: u32) -> &'a [u8]
-    ensures { λ r. ⌜ now r ≡ bytesOf (both (now (pre .entry)) (now (body .entry))) origin ⌝ }
-{
-    if origin == 0 {
-        return pre;
-    }
-    if origin == 1 {
-        return body;
-    }
-    let none: usize = 0;
-    &pre[none..none]
 }

@@ -128,22 +128,23 @@ fn sprint(w: &mut [u8], start: Registers, pre: &[u8], body: &[u8], most: usize) 
     let mut left = most;
     while left > 0 {
         let c = state::bodies::running(w, depth);
-        let b = crate::origins::bytes_of(pre, body, c.origin);
-        let s = crate::swift::brief(b, table::words::size(c.start));
-        if !s.known {
-            return step(w, r, pre, body);
-        }
-        let q = state::bodies::begin(w, r, table::words::word(s.next));
-        let p = crate::swift::execute(w, q, pre, body, s.literal);
-        if !p.ok {
+        let s = crate::origins::brief_of(pre, body, c.origin, c.start);
+        if s.known {
+            let q = state::bodies::begin(w, r, table::words::word(s.next));
+            let x = s.literal;
+            let p = crate::swift::execute(w, q, pre, body, x);
+            if p.ok {
+                if state::recovery::goes_on(w, p, depth) {
+                    r = p;
+                    r.skipping = false;
+                    left -= 1;
+                    continue;
+                }
+                return state::recovery::settle(w, p);
+            }
             return state::recovery::fault(w, q);
         }
-        if !state::recovery::goes_on(w, p, depth) {
-            return state::recovery::settle(w, p);
-        }
-        r = p;
-        r.skipping = false;
-        left -= 1;
+        return step(w, r, pre, body);
     }
     r
 }

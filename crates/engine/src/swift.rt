@@ -4,8 +4,10 @@ ghost use mathlib.Core.Path.{_≡_};
 ghost use mathlib.Core.Bool.{true, false};
 ghost use Prim.Native.Nat.{_≤_};
 ghost use lib.ListN.{length};
+ghost use lib.IntN.{pos, _-ℤ_};
 ghost use types.Run.{OneOf};
 ghost use mathlib.Core.List.{[], _∷_};
+ghost use Rattle.tokens.specs.Format.{bias};
 ghost use Rattle.machine.specs.declared.Literal.the-variants.{Plain};
 ghost use Rattle.machine.specs.declared.Op.the-variants.{Reckons};
 ghost use Rattle.machine.specs.Skeleton.{roleOf};
@@ -26,6 +28,7 @@ use machine::Literal;
 use machine::Next;
 use machine::Work;
 use state::Registers;
+use tokens::Form;
 
 // ---- which literal is due
 
@@ -33,13 +36,25 @@ fn is_swift(n: u16) -> bool
     ensures { λ b. ⌜ (b ≡ true → OneOf swift n) ⌝ }
 {
     match n {
-        1 | 20 | 21 | 180 | 181 | 185 | 188 | 192 | 208 | 231 | 201 | 214 | 210 | 204 => true,
+        1 => true,
+        20 => true,
+        21 => true,
+        180 => true,
+        181 => true,
+        188 => true,
+        192 => true,
+        208 => true,
+        231 => true,
+        201 => true,
+        204 => true,
+        210 => true,
+        214 => true,
         _ => false,
     }
 }
 
 // Another literal, or none.
-fn other() -> Brief
+pub fn other() -> Brief
     ensures { λ r. ⌜ (r .known ≡ false) × (r .next ≡ 0) ⌝ }
 {
     Brief {
@@ -55,13 +70,22 @@ fn operator(b: &[u8], n: u16, next: usize) -> Brief
     ensures { λ r. ⌜ Briefly (operatorBy (roleOf n) (now (b .entry)) n next) r ⌝ }
 {
     if is_swift(n) {
+        let past = skeleton::bodies::past_comments(b, next);
         return Brief {
             known: true,
             literal: Literal::Plain { number: n },
-            next: skeleton::bodies::past_comments(b, next),
+            next: past,
         };
     }
     other()
+}
+
+// The number of a token of two bytes.
+fn short(raw: u16) -> numbers::Number
+    ensures { λ r. ⌜ r ≡ record { num = pos raw -ℤ pos bias; den = 1 } ⌝ }
+{
+    let num = tokens::reading::short_number(raw);
+    numbers::Number { num, den: 1 }
 }
 
 // The literal at `at`, if it is a swift one.
@@ -69,33 +93,26 @@ pub fn brief(b: &[u8], at: usize) -> Brief
     requires { ⌜ length (now b) ≤ 16777215 ⌝ }
     ensures { λ r. ⌜ Briefly (foundAt (now (b .entry)) at) r ⌝ }
 {
-    if b.len() <= at {
-        return other();
-    }
-    let x = b[at];
-    if x < 128 {
-        if b.len() - at < 2 {
+    match tokens::forms::form_at(b, at) {
+        Form::Number { raw, next } => {
+            let number = short(raw);
+            let past = skeleton::bodies::past_comments(b, next);
+            return Brief {
+                known: true,
+                literal: Literal::Figure(number),
+                next: past,
+            };
+        }
+        Form::Operator { number, next } => {
+            return operator(b, number, next);
+        }
+        Form::Sequence => {
             return other();
         }
-        return Brief {
-            known: true,
-            literal: Literal::Figure(numbers::Number {
-                num: tokens::reading::short_number(x, b[at + 1]),
-                den: 1,
-            }),
-            next: skeleton::bodies::past_comments(b, at + 2),
-        };
-    }
-    if x < 160 {
-        return operator(b, tokens::bits::low5(x) as u16, at + 1);
-    }
-    if x < 192 {
-        if b.len() - at < 2 {
+        Form::Cut => {
             return other();
         }
-        return operator(b, tokens::bits::op_number(x, b[at + 1]), at + 2);
     }
-    other()
 }
 
 // ---- effects, the expected one first
@@ -221,21 +238,21 @@ fn run_operator(w: &mut [u8], r: Registers, pre: &[u8], body: &[u8]) -> Register
     called(w, q, pre, body, e)
 }
 
-// ADD, SUB, MUL and DIV
+// ADD, DIV, MUL and SUB
 fn two_numbers(n: u16) -> ArithOp
-    requires { ⌜ OneOf (201 ∷ 214 ∷ 210 ∷ 204 ∷ []) n ⌝ }
+    requires { ⌜ OneOf (201 ∷ 204 ∷ 210 ∷ 214 ∷ []) n ⌝ }
     ensures { λ r. ⌜ Reckons r ≡ opOf n ⌝ }
 {
     match n {
         201 => ArithOp::Add,
-        214 => ArithOp::Sub,
+        204 => ArithOp::Div,
         210 => ArithOp::Mul,
-        _ => ArithOp::Div,
+        _ => ArithOp::Sub,
     }
 }
 
 fn reckon(w: &mut [u8], r: Registers, pre: &[u8], body: &[u8], n: u16) -> Registers
-    requires { ⌜ Busy (now w) r × Short (now pre) (now body) × OneOf (201 ∷ 214 ∷ 210 ∷ 204 ∷ []) n ⌝ }
+    requires { ⌜ Busy (now w) r × Short (now pre) (now body) × OneOf (201 ∷ 204 ∷ 210 ∷ 214 ∷ []) n ⌝ }
     ensures { λ q. ⌜ Tried (execute (both (now (pre .entry)) (now (body .entry))) (Plain n)) (now (w .entry)) r (now (w .exit)) q ⌝ }
 {
     let t = state::stack::tops(w, r.height);
@@ -277,12 +294,11 @@ fn operate(w: &mut [u8], r: Registers, pre: &[u8], body: &[u8], n: u16) -> Regis
         21 => fset(w, r, pre, body),
         180 => pop(w, r),
         181 => state::stack::repeat(w, r, 1),
-        185 => state::stack::turn(w, r, 2, 1),
         188 => state::marks::tally(w, r),
         192 => state::marks::remove(w, r, 0),
         208 => greater(w, r, pre, body),
         231 => run_operator(w, r, pre, body),
-        201 | 214 | 210 | 204 => reckon(w, r, pre, body, n),
+        201 | 204 | 210 | 214 => reckon(w, r, pre, body, n),
         _ => state::stack::failed(r),
     }
 }
