@@ -1,7 +1,7 @@
 -- Bytes by origin, and what is read of those that are not there. Assumes nothing.
 use Prim.Native.Nat.{ℕ, zero, suc, _<_, _≤_}
 use native.Mathlib.Omega.{arith}
-use mathlib.Core.Path.{_≡_, refl, _∙_}
+use mathlib.Core.Path.{_≡_, refl, sym, _∙_}
 use mathlib.Core.Logic.{_⊎_, inl, inr, ⊎-elim}
 use mathlib.Core.List.{List, [], _∷_}
 use lib.ListN.{length}
@@ -41,6 +41,9 @@ none-there pre body zero f g = absurd (f refl)
 none-there pre body (suc zero) f g = absurd (g refl)
 none-there pre body (suc (suc o)) f g = refl
 
+pub nothing-there : (pre body : List ℕ) (o : ℕ) → (o ≡ 0 → ⊥) → (o ≡ 1 → ⊥) → [] ≡ bytesOf (both pre body) o
+nothing-there pre body o f g = sym (none-there pre body o f g)
+
 -- ---- no bytes
 
 solid-none : (at : ℕ) → at ≡ solid [] at
@@ -77,7 +80,7 @@ solid-fits s at m h l = ⊎-elim (λ e. omega arith) (λ k. omega arith) (commen
 
 -- ---- where the next literal stands is inside the bytes
 
-solid-inside : (s : List ℕ) (at : ℕ) → at ≤ length s → solid s at ≤ length s
+pub solid-inside : (s : List ℕ) (at : ℕ) → at ≤ length s → solid s at ≤ length s
 solid-inside s at h = ⊎-elim (λ e. omega arith) (λ k. k) (comments-end s at (solid s at) (comments-are s at))
 
 went-next : (b : List ℕ) (n start : ℕ) (w : Went) → WentIn (length b) 0 w → holdingBy b n start w .next ≤ length b

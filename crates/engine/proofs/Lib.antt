@@ -3,3 +3,4 @@ pub mod ByOrigin
 pub mod Working
 pub mod Acting
 pub mod Stepping
+pub mod Swiftly

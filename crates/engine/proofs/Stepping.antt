@@ -42,7 +42,10 @@ use Rattle.state.proofs.Parts.{contexts-top, length-stack}
 use Rattle.state.proofs.Cutting.{over-above}
 use Rattle.state.proofs.Trying.{trying, failed, tried-no, tried-as, tried-from, pops-is}
 use Rattle.state.proofs.Stacking.{above-few}
-use Rattle.engine.specs.Bodies.{Short, SizedLiteral, performs, Stepped}
+use Rattle.state.proofs.Ending.{not-on}
+use Rattle.engine.specs.declared.Brief.{Brief}
+use Rattle.engine.specs.Swift.{Briefly}
+use Rattle.engine.specs.Bodies.{Short, SizedLiteral, performs, Stepped, Forth}
 use Rattle.engine.proofs.ByOrigin.{bytes-short}
 
 -- ---- the values that an operator reads
@@ -252,3 +255,88 @@ module _ {R : State} (pre body : List ℕ) (n : ℕ) (w : List ℕ) (r : Registe
 
 pub run-aside : {A : List Value} (pre body w : List ℕ) (r : Registers) (w′ : List ℕ) (r′ : Registers) → aside w ≡ A → Stepped pre body w r w′ r′ → aside w′ ≡ A
 run-aside pre body w r w′ r′ e d = d .keeps ∙ e
+
+-- ---- some steps at once
+
+run-stays : (code : Code) (n : ℕ) (s : State) → ended (s .contexts) ≡ true → run n code s ≡ s
+unfolding run
+run-stays code zero s e = refl
+run-stays code (suc n) s e = rw e
+
+last-by : (code : Code) (n : ℕ) (s : State) (b : Bool) → ended (s .contexts) ≡ b → ended (run (suc n) code s .contexts) ≡ false
+    → (ended (run n code (step code s) .contexts) ≡ false → run (suc n) code (step code s) ≡ step code (run n code (step code s))) → run (suc (suc n)) code s ≡ step code (run (suc n) code s)
+unfolding run
+last-by code n s true h e f = not-on (sym (rw h at e) ∙ h)
+last-by code n s false h e f = rw h (f (rw h at e))
+
+run-last : (code : Code) (n : ℕ) (s : State) → ended (run n code s .contexts) ≡ false → run (suc n) code s ≡ step code (run n code s)
+unfolding run
+run-last code zero s e = rw e
+run-last code (suc n) s e = last-by code n s (ended (s .contexts)) refl e (λ h. run-last code n (step code s) h)
+
+both-by : (code : Code) (k m : ℕ) (s : State) (b : Bool) → ended (s .contexts) ≡ b → run (k + m) code (step code s) ≡ run m code (run k code (step code s)) → run (suc (k + m)) code s ≡ run m code (run (suc k) code s)
+unfolding run
+both-by code k m s true h f = rw h (sym (run-stays code m s h))
+both-by code k m s false h f = rw h f
+
+run-both : (code : Code) (k m : ℕ) (s : State) → run (k + m) code s ≡ run m code (run k code s)
+unfolding run
+run-both code zero m s = let z : 0 + m ≡ m = omega arith in rw z
+run-both code (suc k) m s = let z : suc k + m ≡ suc (k + m) = omega arith in rw z (both-by code k m s (ended (s .contexts)) refl (run-both code k m (step code s)))
+
+-- of a run some steps are made
+pub run-forth : {R : State} (pre body : List ℕ) (n : ℕ) (w : List ℕ) (r : Registers) (w′ : List ℕ) (r′ : Registers) → run n (both pre body) (abs w r) ≡ R → Forth pre body n w r w′ r′ → run (n - (r′ .steps - r .steps)) (both pre body) (abs w′ r′) ≡ R
+run-forth pre body n w r w′ r′ inv d =
+    let k = r′ .steps - r .steps in
+    let z : n ≡ k + (n - k) = omega (arith, d .within) in
+    rw (d .does) (sym (run-both (both pre body) k (n - k) (abs w r))) ∙ (rw z at inv)
+
+pub forth-aside : {A : List Value} (pre body : List ℕ) (n : ℕ) (w : List ℕ) (r : Registers) (w′ : List ℕ) (r′ : Registers) → aside w ≡ A → Forth pre body n w r w′ r′ → aside w′ ≡ A
+forth-aside pre body n w r w′ r′ e d = d .keeps ∙ e
+
+module _ (pre body : List ℕ) (most left : ℕ) (w₀ : List ℕ) (r₀ : Registers) (w : List ℕ) (r : Registers)
+    (few : left ≤ most) (sum : r .steps + left ≡ r₀ .steps + most) (same : aside w ≡ aside w₀) (inv : run (most - left) (both pre body) (abs w₀ r₀) ≡ abs w r) where
+  -- and one more
+  pub forth-step : (w′ : List ℕ) (r′ : Registers) → 0 < left → 0 < r .depth → Stepped pre body w r w′ r′ → Forth pre body most w₀ r₀ w′ r′
+  forth-step w′ r′ h deep d =
+      let z : r′ .steps - r₀ .steps ≡ suc (most - left) = omega (arith, d .counted) in
+      let alive : ended (run (most - left) (both pre body) (abs w₀ r₀) .contexts) ≡ false = rw inv (not-ended (slots w) (r .depth) deep) in
+      record {
+        good = d .good;
+        does = d .does ∙ (rw (z, run-last (both pre body) (most - left) (abs w₀ r₀) alive, inv));
+        keeps = d .keeps ∙ same;
+        some = omega (arith, d .counted);
+        within = omega (arith, d .counted);
+      }
+
+  pub forth-inv : (w′ : List ℕ) (r′ : Registers) → 0 < left → 0 < r .depth → Stepped pre body w r w′ r′ → run (most - (left - 1)) (both pre body) (abs w₀ r₀) ≡ abs w′ r′
+  forth-inv w′ r′ h deep d =
+      let z : most - (left - 1) ≡ suc (most - left) = omega arith in
+      let alive : ended (run (most - left) (both pre body) (abs w₀ r₀) .contexts) ≡ false = rw inv (not-ended (slots w) (r .depth) deep) in
+      rw (z, run-last (both pre body) (most - left) (abs w₀ r₀) alive, inv) (sym (d .does))
+
+  pub forth-out : Good w r → 0 < most → left ≤ 0 → Forth pre body most w₀ r₀ w r
+  forth-out g h l =
+      let z : r .steps - r₀ .steps ≡ most - left = omega arith in
+      record { good = g; does = rw z (sym inv); keeps = same; some = omega arith; within = omega arith }
+
+-- none yet
+pub forth-none : (code : Code) (n : ℕ) (s : State) → run (n - n) code s ≡ s
+unfolding run
+forth-none code n s = let z : n - n ≡ 0 = omega arith in rw z
+
+-- ---- a swift step
+
+module _ {w w₁ : List ℕ} {r q : Registers} (pre body : List ℕ) (depth : ℕ) (ed : r .depth ≡ depth) (c : Place) (s : Brief) (n : ℕ)
+    (here : (c .origin ≡ running (contextsOf (slots w) depth) .origin) × (c .start ≡ running (contextsOf (slots w) depth) .at))
+    (due : Briefly (foundAt (bytesOf (both pre body) (c .origin)) (c .start)) s) (known : s .known ≡ true) (en : n ≡ s .next) (be : Begun n w r w₁ q) (off : r .skipping ≡ false) where
+  swift-step : {w′ : List ℕ} {r′ : Registers} → Done (performs (both pre body) (s .literal)) w₁ q w′ r′ → Stepped pre body w r w′ r′
+  swift-step d =
+      step-do pre body c (record { literal = s .literal; next = s .next }) n false (rw ed here) (record { literal = due .literal known; next = due .next known }) en be (rw (be .skips, off)) refl d
+
+  module _ {w₂ : List ℕ} {p : Registers} (t : Tried (execute (both pre body) (s .literal)) w₁ q w₂ p) where
+    pub swift-fault : {w′ : List ℕ} {r′ : Registers} → p .ok ≡ false → Done fault w₂ q w′ r′ → Stepped pre body w r w′ r′
+    swift-fault o d = swift-step (goes-back (both pre body) (s .literal) (be .busy) t o d)
+
+    pub swift-settle : {w′ : List ℕ} {r′ : Registers} → p .ok ≡ true → Done settle w₂ p w′ r′ → Stepped pre body w r w′ r′
+    swift-settle o d = swift-step (goes-on (both pre body) (s .literal) (be .busy) t o d)

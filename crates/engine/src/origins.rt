@@ -9,6 +9,7 @@ ghost use Rattle.state.specs.Layout.{Busy, Tried};
 ghost use Rattle.state.specs.Operations.{spell};
 ghost use Rattle.literals.specs.Names.{both};
 ghost use Rattle.engine.specs.Bodies.{Short};
+ghost use Rattle.engine.specs.Swift.{Briefly};
 use state::Registers;
 
 pub fn length_of(pre: &[u8], body: &[u8], origin: u32) -> usize
@@ -55,6 +56,21 @@ pub fn due_of(pre: &[u8], body: &[u8], origin: u32, place: u32) -> literals::Due
         literal: machine::Literal::Plain { number: 0 },
         next: 0,
     }
+}
+
+// The literal at a place, if it is a swift one.
+pub fn brief_of(pre: &[u8], body: &[u8], origin: u32, place: u32) -> crate::Brief
+    requires { ⌜ Short (now pre) (now body) ⌝ }
+    ensures { λ r. ⌜ Briefly (foundAt (bytesOf (both (now (pre .entry)) (now (body .entry))) origin) place) r ⌝ }
+{
+    let at = table::words::size(place);
+    if origin == 0 {
+        return crate::swift::brief(pre, at);
+    }
+    if origin == 1 {
+        return crate::swift::brief(body, at);
+    }
+    crate::swift::other()
 }
 
 // The string token at `at` becomes a vector; past the end of any bytes there is none.

@@ -1,12 +1,12 @@
 // A literal executed, a step, and a body under an allowance.
 ghost use mathlib.Core.Path.{_≡_};
-ghost use mathlib.Core.Bool.{not, _&&_};
+ghost use mathlib.Core.Bool.{false, not, _&&_};
 ghost use Prim.Native.Nat.{_+_, _<_, _≤_};
 ghost use Rattle.machine.specs.declared.Literal.the-variants.{Plain, WithBody};
 ghost use Rattle.machine.specs.Step.{execute, isUnmark0, run};
 ghost use Rattle.literals.specs.Names.{both};
 ghost use Rattle.state.specs.Layout.{Good, Busy, Done, Tried};
-ghost use Rattle.engine.specs.Bodies.{Short, SizedLiteral, Stepped, Ran, performs};
+ghost use Rattle.engine.specs.Bodies.{Short, SizedLiteral, Stepped, Forth, Ran, performs};
 use machine::Literal;
 use state::Registers;
 
@@ -118,6 +118,37 @@ fn step(w: &mut [u8], r: Registers, pre: &[u8], body: &[u8]) -> Registers
     }
 }
 
+// Steps of the running body, as long as they are swift and the body goes on; the last is any step.
+fn sprint(w: &mut [u8], start: Registers, pre: &[u8], body: &[u8], most: usize) -> Registers
+    requires { ⌜ Good (now w) start × (0 < start .depth) × (start .skipping ≡ false) × (0 < most) × (start .steps + most ≤ 1000000) × Short (now pre) (now body) ⌝ }
+    ensures { λ q. ⌜ Forth (now (pre .entry)) (now (body .entry)) most (now (w .entry)) start (now (w .exit)) q ⌝ }
+{
+    let depth = start.depth;
+    let mut r = start;
+    let mut left = most;
+    while left > 0 {
+        let c = state::bodies::running(w, depth);
+        let s = crate::origins::brief_of(pre, body, c.origin, c.start);
+        if s.known {
+            let q = state::bodies::begin(w, r, table::words::word(s.next));
+            let x = s.literal;
+            let p = crate::swift::execute(w, q, pre, body, x);
+            if p.ok {
+                if state::recovery::goes_on(w, p, depth) {
+                    r = p;
+                    r.skipping = false;
+                    left -= 1;
+                    continue;
+                }
+                return state::recovery::settle(w, p);
+            }
+            return state::recovery::fault(w, q);
+        }
+        return step(w, r, pre, body);
+    }
+    r
+}
+
 // At most `allowance` steps.
 pub fn run(w: &mut [u8], start: Registers, pre: &[u8], body: &[u8], allowance: usize) -> Registers
     requires { ⌜ Good (now w) start × (start .steps + allowance ≤ 1000000) × Short (now pre) (now body) ⌝ }
@@ -129,8 +160,14 @@ pub fn run(w: &mut [u8], start: Registers, pre: &[u8], body: &[u8], allowance: u
         if r.depth == 0 {
             return r;
         }
-        r = step(w, r, pre, body);
-        left -= 1;
+        if r.skipping {
+            r = step(w, r, pre, body);
+            left -= 1;
+            continue;
+        }
+        let q = sprint(w, r, pre, body, left);
+        left -= q.steps - r.steps;
+        r = q;
     }
     r
 }

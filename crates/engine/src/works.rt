@@ -49,7 +49,7 @@ fn inline(
 }
 
 // The body of an operator entered with the frame that it keeps.
-fn call(
+pub fn call(
     w: &mut [u8],
     r: Registers,
     pre: &[u8],
@@ -136,7 +136,7 @@ fn matches(
 }
 
 // Nothing more is done.
-fn done(r: Registers) -> Registers
+pub fn done(r: Registers) -> Registers
     ensures { λ q. ⌜ q ≡ record { height = r .height; depth = r .depth; used = r .used; steps = r .steps; errors = r .errors; skipping = r .skipping; ok = true } ⌝ }
 {
     let mut q = r;
@@ -182,7 +182,7 @@ fn report(w: &[u8], r: Registers, v: machine::Value) -> Registers
 }
 
 // What the engine does with the values above the topmost mark.
-fn work(w: &mut [u8], r: Registers, pre: &[u8], body: &[u8], x: Work) -> Registers
+pub fn work(w: &mut [u8], r: Registers, pre: &[u8], body: &[u8], x: Work) -> Registers
     requires { ⌜ Busy (now w) r × SizedWork x ⌝ }
     ensures { λ q. ⌜ Tried (worked (both (now (pre .entry)) (now (body .entry))) x) (now (w .entry)) r (now (w .exit)) q ⌝ }
 {
@@ -207,7 +207,7 @@ fn work(w: &mut [u8], r: Registers, pre: &[u8], body: &[u8], x: Work) -> Registe
 }
 
 // The engine's part of an operator.
-fn act(w: &mut [u8], r: Registers, pre: &[u8], body: &[u8], x: Next) -> Registers
+pub fn act(w: &mut [u8], r: Registers, pre: &[u8], body: &[u8], x: Next) -> Registers
     requires { ⌜ Busy (now w) r × Short (now pre) (now body) × SizedNext x ⌝ }
     ensures { λ q. ⌜ Tried (does (both (now (pre .entry)) (now (body .entry))) x) (now (w .entry)) r (now (w .exit)) q ⌝ }
 {

@@ -60,7 +60,7 @@ fn put_context(
     requires { ⌜ (id < 4294967296) × (d < 12) × (s + 50 ≤ 2400) × (48000 ≤ length (now w)) ⌝ }
     ensures { λ _. ⌜ slots (now (w .exit)) ≡ contextPut (slots (now (w .entry))) id d s origin at end owes ⌝ }
 {
-    table::slots::copy(w, s, 128 + 50 * d, 50);
+    table::slots::copy_long(w, s, 128 + 50 * d, 50);
     let i = table::words::word(id);
     table::slots::put(
         w,

@@ -72,7 +72,7 @@ pub fn keep_frame(w: &mut [u8])
     requires { ⌜ 48000 ≤ length (now w) ⌝ }
     ensures { λ _. ⌜ slots (now (w .exit)) ≡ copied (slots (now (w .entry))) 128 1764 50 ⌝ }
 {
-    table::slots::copy(w, 128, 1764, 50);
+    table::slots::copy_long(w, 128, 1764, 50);
 }
 
 // The frame kept aside is the engine's body's.
@@ -80,5 +80,5 @@ pub fn take_frame(w: &mut [u8])
     requires { ⌜ 48000 ≤ length (now w) ⌝ }
     ensures { λ _. ⌜ slots (now (w .exit)) ≡ copied (slots (now (w .entry))) 1764 128 50 ⌝ }
 {
-    table::slots::copy(w, 1764, 128, 50);
+    table::slots::copy_long(w, 1764, 128, 50);
 }

@@ -1,6 +1,6 @@
 // Mark recovery and the end of bodies. Recovery writes nothing: it only lowers the height of the stack and the number of contexts.
 ghost use mathlib.Core.Path.{_≡_};
-ghost use mathlib.Core.Bool.{true};
+ghost use mathlib.Core.Bool.{false, true};
 ghost use Prim.Native.Nat.{_≤_, _<_};
 ghost use lib.ListN.{length};
 ghost use Rattle.table.specs.Slots.{slots};
@@ -96,6 +96,21 @@ pub fn settle(w: &mut [u8], before: Registers) -> Registers
     }
     r.skipping = false;
     r
+}
+
+// Whether the body at `depth` is the running one and goes on: then a literal that did not fail ends nothing.
+pub fn goes_on(w: &[u8], r: Registers, depth: usize) -> bool
+    requires { ⌜ Good (now w) r × (0 < depth) ⌝ }
+    ensures { λ b. ⌜ (b ≡ true → (r .depth ≡ depth) × Done settle (now (w .entry)) r (now (w .entry)) (record { height = r .height; depth = r .depth; used = r .used; steps = r .steps; errors = r .errors; skipping = false; ok = r .ok })) ⌝ }
+{
+    if r.depth != depth {
+        return false;
+    }
+    let c = table::slots::get(w, 1752 + (depth - 1));
+    if c.b < c.c {
+        return true;
+    }
+    false
 }
 
 // After a literal that was passed over.

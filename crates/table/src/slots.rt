@@ -41,8 +41,21 @@ pub fn put(w: &mut [u8], k: usize, v: Slot)
     emit(w, 20 * k, v);
 }
 
-// The n slots from s on to d on, the first first. Byte by byte: a loop of single bytes is compiled to one of vectors.
+// The n slots from s on to d on, the first first.
 pub fn copy(w: &mut [u8], s: usize, d: usize, n: usize)
+    requires { ⌜ (20 * (s + n) ≤ length (now w)) × (20 * (d + n) ≤ length (now w)) ⌝ }
+    ensures { λ _. ⌜ slots (now (w .exit)) ≡ copied (slots (now (w .entry))) s d n ⌝ }
+{
+    let mut i: usize = 0;
+    while i < n {
+        let v = get(w, s + i);
+        put(w, d + i, v);
+        i += 1;
+    }
+}
+
+// The same by bytes, which the compiler moves many at a time: it pays from some twenty slots on.
+pub fn copy_long(w: &mut [u8], s: usize, d: usize, n: usize)
     requires { ⌜ (20 * (s + n) ≤ length (now w)) × (20 * (d + n) ≤ length (now w)) ⌝ }
     ensures { λ _. ⌜ slots (now (w .exit)) ≡ copied (slots (now (w .entry))) s d n ⌝ }
 {

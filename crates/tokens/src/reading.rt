@@ -186,7 +186,7 @@ fn sequence_at(s: &[u8], at: usize) -> Read
 }
 
 // A short number: 15 bits less 4000.
-fn short_number(raw: u16) -> i32
+pub fn short_number(raw: u16) -> i32
     ensures { λ r. ⌜ r ≡ pos raw -ℤ pos bias ⌝ }
 {
     (raw as i32) - 4000

@@ -2,7 +2,8 @@
 use borrow.Author.Needs.{needs}
 use mathlib.Core.Path.{_≡_}
 use lib.ListN.{length}
-use Rattle.engine.proofs.Stepping.{run-out, run-ended, run-on, run-aside}
+use native.Mathlib.Omega.{arith}
+use Rattle.engine.proofs.Stepping.{run-out, run-ended, run-on, run-aside, run-forth, forth-aside}
 use Prim.Native.Nat.{_+_, _-_, _≤_}
 use Rattle.machine.specs.Step.{run}
 use Rattle.literals.specs.Names.{both}
@@ -29,5 +30,10 @@ run-spec =
     (λ c. search needs)
     (λ c. search needs)
     (λ c. (search needs, search needs, search needs, search needs, search (needs, run-aside), search (needs, run-on)))
+    (λ c κs. search needs)
+    (λ c. search needs)
+    (λ c. search needs)
+    (λ c. search needs)
+    (λ c. (search needs, search needs, search needs, search needs, search (needs, forth-aside), search (needs, run-forth)))
     (λ c. search needs)
     (λ c. record { good = search needs; does = search (needs, run-out); keeps = search needs; counted = search needs }))

@@ -7,7 +7,7 @@ use Rattle.state.proofs.bodies.put_context.Tie as tie
 
 returns : tie.Need-returns
 unfolding contextPut
-returns c = rw (c .before .before .before .before .before .before .before .copy .ensures, c .before .before .before .before .word .ensures) at (c .before .before .put .ensures)
+returns c = rw (c .before .before .before .before .before .before .before .copy-long .ensures, c .before .before .before .before .word .ensures) at (c .before .before .put .ensures)
 
 pub put-context-spec : {M : Type 1} → statement M
 put-context-spec =
