@@ -40,7 +40,7 @@ fn survey_of(s: &[u8]) -> Survey
     let mut count: usize = 0;
     let mut texts: usize = 0;
     while at < s.len() {
-        match step_of(tokens::point::token_at(s, at)) {
+        match step_of(tokens::reading::read_token(s, at)) {
             Step::Stop { refusal, place } => {
                 return Survey::Broken { refusal, place };
             }
@@ -208,7 +208,7 @@ fn fill_tables(s: &[u8], list: &mut [u8], text: &mut [u8])
     let mut p: usize = 0;
     let mut o: usize = 0;
     while at < s.len() {
-        let g = put_read(s, at, tokens::point::token_at(s, at), list, p, text, o);
+        let g = put_read(s, at, tokens::reading::read_token(s, at), list, p, text, o);
         at = g.at;
         p = g.p;
         o = g.o;

@@ -1,5 +1,5 @@
 // The reading point, the bytes together with the place reached, handed from token to token. Each function over it takes it apart and
-// calls one that is proved on slice and place. Callers use `token_at`, `take` and `left_at`, which need no walk of theirs.
+// calls one that is proved on slice and place. Callers use `take` and `left_at`, which need no walk of theirs.
 ghost use mathlib.Core.Path.{_≡_};
 ghost use Prim.Native.Nat.{_-_};
 ghost use lib.ListN.{length};
@@ -85,13 +85,6 @@ pub fn left<'a>(r: Reader<'a>) -> usize
     ensures { λ n. ⌜ n ≡ length (now (r .entry .src)) - r .entry .at ⌝ }
 {
     left_from(r.src, r.at)
-}
-
-// The token at a place.
-pub fn token_at(s: &[u8], at: usize) -> Read
-    ensures { λ t. ⌜ t ≡ tokenAt (now (s .entry)) at ⌝ }
-{
-    token(point_at(s, at))
 }
 
 // The token at a place, and the place that the reading point is handed on to.

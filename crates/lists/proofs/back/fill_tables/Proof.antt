@@ -24,12 +24,12 @@ loop-holds c = (length (c .before .before .before .args .s .now), [], record { r
 
 turned : (c : tie.After-put-read Inv-loop μ-loop) →
     let a = c .before .before .before .before .before .before .before .before .before .args in let o = c .before .before .before .before .before .loop in let i = o .inv in let r = c .put-read .result in let last = c .put-read .last .1 .1 .1 in
-    Filled (tokensIn (a .s .now)) (a .s .now) (a .list .now) (last .0) (a .text .now) (last .1 .1 .0) (i .0 - 1) (r .at) (r .p) (r .o) (i .1 ++ added (a .s .now) (o .at) (c .before .before .before .token-at .result)) × (o .at < r .at)
+    Filled (tokensIn (a .s .now)) (a .s .now) (a .list .now) (last .0) (a .text .now) (last .1 .1 .0) (i .0 - 1) (r .at) (r .p) (r .o) (i .1 ++ added (a .s .now) (o .at) (c .before .before .before .read-token .result)) × (o .at < r .at)
 turned c =
     let s = c .before .before .before .before .before .before .before .before .before .args .s .now in
     let kept = c .put-read .kept .1 .1 .1 in
     let told = token-says s (c .before .before .before .before .before .loop .at) (λ i. omega (arith, c .before .before .before .before .before .before .before .before .shared-slice-known .given i)) (omega arith) in
-    filled-next (c .before .before .before .before .before .loop .inv .2) (c .before .before .before .before .before .before .before .before .before .pre .0) (c .before .before .before .before .before .before .before .before .before .pre .1) (omega arith) (c .before .before .before .token-at .ensures) told (c .put-read .ensures) (kept .0) (kept .1 .1 .0)
+    filled-next (c .before .before .before .before .before .loop .inv .2) (c .before .before .before .before .before .before .before .before .before .pre .0) (c .before .before .before .before .before .before .before .before .before .pre .1) (omega arith) (c .before .before .before .read-token .ensures) told (c .put-read .ensures) (kept .0) (kept .1 .1 .0)
 
 pub fill-tables-spec : {M : Type 1} → statement M
 fill-tables-spec =
@@ -39,9 +39,9 @@ fill-tables-spec =
     μ-loop
     loop-holds
     (λ c κs. tt)
-    (λ c κs. filled-room (c .before .before .before .before .loop .inv .2) (c .before .before .before .before .before .before .before .before .pre .0) (c .before .before .before .before .before .before .before .before .pre .1) (omega arith) (c .before .before .token-at .ensures))
+    (λ c κs. filled-room (c .before .before .before .before .loop .inv .2) (c .before .before .before .before .before .before .before .before .pre .0) (c .before .before .before .before .before .before .before .before .pre .1) (omega arith) (c .before .before .read-token .ensures))
     (λ c. omega (arith, turned (c .before .before .before .before) .1))
-    (λ c. let o = c .before .before .before .before .before .before .before .before .before .loop in (o .inv .0 - 1, o .inv .1 ++ added (c .before .before .before .before .before .before .before .before .before .before .before .before .before .args .s .now) (o .at) (c .before .before .before .before .before .before .before .token-at .result), turned (c .before .before .before .before) .0))
+    (λ c. let o = c .before .before .before .before .before .before .before .before .before .loop in (o .inv .0 - 1, o .inv .1 ++ added (c .before .before .before .before .before .before .before .before .before .before .before .before .before .args .s .now) (o .at) (c .before .before .before .before .before .before .before .read-token .result), turned (c .before .before .before .before) .0))
     (λ c. c .before .loop .inv .2 .list-same)
     (λ c. c .before .loop .inv .2 .text-same)
     (λ c. filled-end (c .before .loop .inv .2) (omega arith)))

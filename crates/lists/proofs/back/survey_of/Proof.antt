@@ -24,7 +24,7 @@ stepped : (c : tie.After-step-of Inv-loop μ-loop) → let s = c .before .before
 stepped c =
     let s = c .before .before .before .before .before .args .s .now in
     let at = c .before .before .before .loop .at in
-    subst (Steps s at (tokenAt s at)) (sym (c .step-of .ensures ∙ ap stepOf (c .before .token-at .ensures)))
+    subst (Steps s at (tokenAt s at)) (sym (c .step-of .ensures ∙ ap stepOf (c .before .read-token .ensures)))
     (steps s at (tokenAt s at) (token-says s at (λ i. omega (arith, c .before .before .before .before .shared-slice-known .given i)) (omega arith)))
 
 gone : (c : tie.After-known-told2 Inv-loop μ-loop) → let s = c .before .before .before .before .before .before .before .before .args .s .now in let at = c .before .before .before .before .before .before .loop .at in let g = c .before .adds .given in Goes s at (tokenAt s at) (g .0 .0) (g .0 .1 .0) (g .0 .1 .1 .0)
