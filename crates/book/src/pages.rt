@@ -7,25 +7,43 @@ ghost use Rattle.book.specs.Ran.{Preambled, Paged};
 use state::Registers;
 
 // The preamble, beside no page.
-pub fn preamble(w: &mut [u8], pre: &[u8], none: &[u8], allowance: usize) -> Registers
+pub fn preamble<'a>(w: &mut [u8], pre: &'a [u8], none: &'a [u8], allowance: usize) -> Registers
     requires { ⌜ (48000 ≤ length (now w)) × Short (now pre) (now none) × (length (now none) ≡ 0) × (allowance ≤ 1000000) ⌝ }
     ensures { λ q. ⌜ Preambled (now (pre .entry)) allowance (now (w .exit)) q ⌝ }
 {
     state::frames::zero_frame(w);
-    let at = engine::origins::solid_of(pre, none, 0, 0);
-    let r = state::bodies::open(w, 0, at, table::words::word(pre.len()), 0);
+    let at = skeleton::bodies::past_comments(pre, 0);
+    let r = state::bodies::open(
+        w,
+        0,
+        table::words::word(at),
+        table::words::word(pre.len()),
+        0,
+    );
     let q = engine::steps::run(w, r, pre, none, allowance);
     state::frames::keep_frame(w);
     q
 }
 
 // A page, of which `used` cells are the preamble's.
-pub fn page(w: &mut [u8], pre: &[u8], body: &[u8], used: usize, allowance: usize) -> Registers
+pub fn page<'a>(
+    w: &mut [u8],
+    pre: &'a [u8],
+    body: &'a [u8],
+    used: usize,
+    allowance: usize,
+) -> Registers
     requires { ⌜ (48000 ≤ length (now w)) × Short (now pre) (now body) × (used ≤ 1024) × (allowance ≤ 1000000) ⌝ }
     ensures { λ q. ⌜ Paged (now (pre .entry)) (now (body .entry)) used allowance (now (w .entry)) (now (w .exit)) q ⌝ }
 {
     state::frames::take_frame(w);
-    let at = engine::origins::solid_of(pre, body, 1, 0);
-    let r = state::bodies::open(w, 1, at, table::words::word(body.len()), used);
+    let at = skeleton::bodies::past_comments(body, 0);
+    let r = state::bodies::open(
+        w,
+        1,
+        table::words::word(at),
+        table::words::word(body.len()),
+        used,
+    );
     engine::steps::run(w, r, pre, body, allowance)
 }

@@ -1,33 +1,27 @@
 -- Bytes by origin, and what is read of those that are not there. Assumes nothing.
 use Prim.Native.Nat.{ℕ, zero, suc, _<_, _≤_}
 use native.Mathlib.Omega.{arith}
-use mathlib.Core.Path.{_≡_, refl, sym, _∙_}
+use mathlib.Core.Path.{_≡_, refl}
 use mathlib.Core.Logic.{_⊎_, inl, inr, ⊎-elim}
 use mathlib.Core.List.{List, [], _∷_}
 use lib.ListN.{length}
 use Rattle.tokens.specs.declared.Read.{Read}
 use Rattle.tokens.specs.declared.Read.the-variants as read
 use Rattle.tokens.specs.Format.{longest}
-use Rattle.tokens.specs.Joined.{dataOf, joinedAt}
 use Rattle.tokens.specs.Token.{tokenAt}
-use Rattle.tokens.proofs.Copying.{none-past}
-use Rattle.tokens.proofs.Theorems.{token-end}
 use Rattle.machine.specs.declared.Role.{Role}
 use Rattle.machine.specs.declared.Role.the-variants as role
 use Rattle.machine.specs.declared.Went.{Went}
 use Rattle.machine.specs.declared.Went.the-variants.{Past, Stop}
 use Rattle.machine.specs.declared.Literal.the-variants.{Plain}
 use Rattle.machine.specs.Limits.{mostOpen}
-use Rattle.machine.specs.Skeleton.{roleOf, solid, solidFrom, bodyAt}
-use Rattle.machine.specs.Literal.{bytesOf, numbers, lettersAt, nothingAt, holdingBy, holdingAt, operatorBy, foundBy, foundAt}
+use Rattle.machine.specs.Skeleton.{roleOf, solid, bodyAt}
+use Rattle.machine.specs.Literal.{bytesOf, nothingAt, holdingBy, holdingAt, operatorBy, foundBy, foundAt}
 use Rattle.machine.proofs.Inside.{EndsIn, token-inside, WentIn, went-lower, body-later}
 use Rattle.machine.proofs.Comments.{Comments, none-at, one-at, comments-are}
 use Rattle.literals.specs.declared.Due.{Due}
 use Rattle.literals.specs.Dues.{Is}
-use Rattle.state.specs.declared.Registers.{Registers}
-use Rattle.state.specs.Layout.{Tried}
-use Rattle.state.specs.Operations.{spell}
-use Rattle.state.proofs.Trying.{tried-as}
+use Rattle.state.specs.declared.Place.{Place}
 use Rattle.literals.specs.Names.{both}
 use Rattle.engine.specs.Bodies.{Short}
 
@@ -36,35 +30,16 @@ bytes-short pre body zero h = h .pre-fits
 bytes-short pre body (suc zero) h = h .body-fits
 bytes-short pre body (suc (suc o)) h = omega arith
 
-none-there : (pre body : List ℕ) (o : ℕ) → (o ≡ 0 → ⊥) → (o ≡ 1 → ⊥) → bytesOf (both pre body) o ≡ []
-none-there pre body zero f g = absurd (f refl)
-none-there pre body (suc zero) f g = absurd (g refl)
-none-there pre body (suc (suc o)) f g = refl
-
 pub nothing-there : (pre body : List ℕ) (o : ℕ) → (o ≡ 0 → ⊥) → (o ≡ 1 → ⊥) → [] ≡ bytesOf (both pre body) o
-nothing-there pre body o f g = sym (none-there pre body o f g)
+nothing-there pre body zero f g = absurd (f refl)
+nothing-there pre body (suc zero) f g = absurd (g refl)
+nothing-there pre body (suc (suc o)) f g = refl
 
 -- ---- no bytes
-
-solid-none : (at : ℕ) → at ≡ solid [] at
-unfolding solid solidFrom
-solid-none at = refl
-
-found-none : (at : ℕ) → Is (foundAt [] at) (record { literal = Plain 0; next = 0 })
-unfolding foundAt foundBy nothingAt
-found-none at = rw (token-end [] at (omega arith)) (record { literal = refl; next = refl })
 
 pub empty : (d : List ℕ) → 0 ≡ length d → d ≡ []
 empty [] e = refl
 empty (b ∷ d) e = absurd (omega arith)
-
-letters-past : (b : List ℕ) (at : ℕ) → length b ≤ at → lettersAt b at ≡ []
-unfolding lettersAt numbers
-letters-past b at h = rw (empty (dataOf (joinedAt b at)) (none-past b at h))
-
-spell-none : {w w′ : List ℕ} {r r′ : Registers} (b : List ℕ) (at n : ℕ) → length b ≤ n → Tried (spell b n) w r w′ r′ → Tried (spell [] at) w r w′ r′
-unfolding spell
-spell-none b at n h t = tried-as (rw (letters-past b n h, letters-past [] at (omega arith))) t
 
 -- ---- a place past comments fits where the place and the bytes do
 
@@ -104,53 +79,25 @@ token-next b at (read.Operator n next) h = role-next b n next (roleOf n) (h .1)
 token-next b at (read.Comment next) h = omega arith
 token-next b at (read.Unread r p) h = omega arith
 
-next-inside : (b : List ℕ) (at : ℕ) → foundAt b at .next ≤ length b
+pub next-inside : (b : List ℕ) (at : ℕ) → foundAt b at .next ≤ length b
 unfolding foundAt
 next-inside b at = token-next b at (tokenAt b at) (token-inside b at)
 
--- ---- what the functions by origin answer
+-- ---- a place past comments is a word
 
-module _ (pre body : List ℕ) (o : ℕ) (short : Short pre body) where
-  pub length-pre : o ≡ 0 → (length pre ≡ length (bytesOf (both pre body) o)) × (length pre ≤ 16777215)
-  length-pre e = (rw e, short .pre-fits)
+pub place-word : (pre body b : List ℕ) (o at q : ℕ) → b ≡ bytesOf (both pre body) o → Short pre body → at < 4294967296 → q ≡ solid b at → q < 4294967296
+place-word pre body b o at q eb short h e =
+    let long : length b ≤ longest = rw eb (bytes-short pre body o short) in
+    rw e (solid-fits b at 4294967296 h (omega arith))
 
-  pub length-page : o ≡ 1 → (length body ≡ length (bytesOf (both pre body) o)) × (length body ≤ 16777215)
-  length-page e = (rw e, short .body-fits)
+-- ---- the body with the origin o has the bytes b
 
-  pub length-none : (o ≡ 0 → ⊥) → (o ≡ 1 → ⊥) → (0 ≡ length (bytesOf (both pre body) o)) × (0 ≤ 16777215)
-  length-none f g = (rw (none-there pre body o f g), omega arith)
+pub ends-fit : (pre body b : List ℕ) (o : ℕ) → b ≡ bytesOf (both pre body) o → Short pre body → length b ≤ 16777215
+ends-fit pre body b o eb short = rw eb (bytes-short pre body o short)
 
-  pub solid-pre : (start at q r : ℕ) → at ≡ start → o ≡ 0 → q ≡ solid pre at → r ≡ q → r ≡ solid (bytesOf (both pre body) o) start
-  solid-pre start at q r ea e eq er = er ∙ eq ∙ (rw (e, ea))
+pub due-fits : (b : List ℕ) (at : ℕ) (d : Due) → length b ≤ 16777215 → Is (foundAt b at) d → d .next < 4294967296
+due-fits b at d l i = omega (arith, i .next, next-inside b at)
 
-  pub solid-page : (start at q r : ℕ) → at ≡ start → o ≡ 1 → q ≡ solid body at → r ≡ q → r ≡ solid (bytesOf (both pre body) o) start
-  solid-page start at q r ea e eq er = er ∙ eq ∙ (rw (e, ea))
-
-  pub solid-there : (start : ℕ) → (o ≡ 0 → ⊥) → (o ≡ 1 → ⊥) → start ≡ solid (bytesOf (both pre body) o) start
-  solid-there start f g = rw (none-there pre body o f g) (solid-none start)
-
-  pub pre-word : (at q : ℕ) → at < 4294967296 → q ≡ solid pre at → q < 4294967296
-  pre-word at q h e = rw e (solid-fits pre at 4294967296 h (omega (arith, short .pre-fits)))
-
-  pub page-word : (at q : ℕ) → at < 4294967296 → q ≡ solid body at → q < 4294967296
-  page-word at q h e = rw e (solid-fits body at 4294967296 h (omega (arith, short .body-fits)))
-
-  module _ (place at : ℕ) (d : Due) (ea : at ≡ place) where
-    pub due-pre : o ≡ 0 → Is (foundAt pre at) d → Is (foundAt (bytesOf (both pre body) o) place) d × (d .next ≤ 16777215)
-    due-pre e t = (rw (e, ← ea) t, omega (arith, t .next, next-inside pre at, short .pre-fits))
-
-    pub due-page : o ≡ 1 → Is (foundAt body at) d → Is (foundAt (bytesOf (both pre body) o) place) d × (d .next ≤ 16777215)
-    due-page e t = (rw (e, ← ea) t, omega (arith, t .next, next-inside body at, short .body-fits))
-
-  pub due-none : (place : ℕ) → (o ≡ 0 → ⊥) → (o ≡ 1 → ⊥) → Is (foundAt (bytesOf (both pre body) o) place) (record { literal = Plain 0; next = 0 }) × (0 ≤ 16777215)
-  due-none place f g = (rw (none-there pre body o f g) (found-none place), omega arith)
-
-module _ {w w′ : List ℕ} {r r′ : Registers} (pre body : List ℕ) (o at : ℕ) where
-  pub spell-pre : o ≡ 0 → Tried (spell pre at) w r w′ r′ → Tried (spell (bytesOf (both pre body) o) at) w r w′ r′
-  spell-pre e t = rw e t
-
-  pub spell-page : o ≡ 1 → Tried (spell body at) w r w′ r′ → Tried (spell (bytesOf (both pre body) o) at) w r w′ r′
-  spell-page e t = rw e t
-
-  pub spell-nowhere : (n : ℕ) → (o ≡ 0 → ⊥) → (o ≡ 1 → ⊥) → length pre ≤ n → Tried (spell pre n) w r w′ r′ → Tried (spell (bytesOf (both pre body) o) at) w r w′ r′
-  spell-nowhere n f g h t = rw (none-there pre body o f g) (spell-none pre at n h t)
+-- the literal that is due in the running body, whose bytes are b
+pub due-here : (pre body b : List ℕ) (c : Place) (at : ℕ) (d : Due) → b ≡ bytesOf (both pre body) (c .origin) → at ≡ c .start → Is (foundAt b at) d → Is (foundAt (bytesOf (both pre body) (c .origin)) (c .start)) d
+due-here pre body b c at d eb ea i = rw (← eb, ← ea) i

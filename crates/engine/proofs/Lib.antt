@@ -2,5 +2,6 @@
 pub mod ByOrigin
 pub mod Working
 pub mod Acting
+pub mod Level
 pub mod Stepping
 pub mod Swiftly

@@ -21,6 +21,7 @@ use Rattle.machine.specs.declared.BodyOp.{BodyOp}
 use Rattle.machine.specs.declared.Literal.{Literal}
 use Rattle.machine.specs.declared.Literal.the-variants.{Figure, Name, Text, Plain, WithBody}
 use Rattle.machine.specs.declared.Effect.{Effect}
+use Rattle.machine.specs.declared.Effect.the-variants.{Fail}
 use Rattle.machine.specs.State.{State, running}
 use Rattle.machine.specs.Literal.{Code, bytesOf, foundAt}
 use Rattle.machine.specs.Operators.{opOf, bodyOpOf, arityOf, effectOf, popped, performed}
@@ -36,17 +37,18 @@ use Rattle.operators.specs.Sizes.{Small}
 use Rattle.state.specs.declared.Place.{Place}
 use Rattle.state.specs.declared.Registers.{Registers}
 use Rattle.state.specs.declared.Tops.{Tops}
-use Rattle.state.specs.Layout.{half, valueIn, stackOf, contextsOf, abs, aside, Good, Busy, Done, answer, Tried, Begun, Topmost}
+use Rattle.state.specs.Layout.{half, valueIn, stackOf, contextsOf, abs, Good, Busy, Done, answer, Tried, Begun, Topmost}
 use Rattle.state.specs.Operations as table
 use Rattle.state.proofs.Parts.{contexts-top, length-stack}
 use Rattle.state.proofs.Cutting.{over-above}
 use Rattle.state.proofs.Trying.{trying, failed, tried-no, tried-as, tried-from, pops-is}
 use Rattle.state.proofs.Stacking.{above-few}
 use Rattle.state.proofs.Ending.{not-on}
-use Rattle.engine.specs.declared.Brief.{Brief}
-use Rattle.engine.specs.Swift.{Briefly}
-use Rattle.engine.specs.Bodies.{Short, SizedLiteral, performs, Stepped, Forth}
+use Rattle.engine.specs.Swift.{flat, Flat}
+use Rattle.engine.specs.Bodies.{Short, SizedLiteral, performs, Stepped}
 use Rattle.engine.proofs.ByOrigin.{bytes-short}
+use Rattle.engine.proofs.Acting.{is-fail}
+use Rattle.engine.proofs.Level.{flat-of}
 
 -- ---- the values that an operator reads
 
@@ -91,6 +93,10 @@ module _ {w : List ℕ} {r : Registers} (code : Code) (x : Literal) (a : ℕ) (t
 pub busy-lower : {w : List ℕ} {r q : Registers} (a : ℕ) → Busy w r → q ≡ trying r (r .height - a) (r .depth) (r .used) (r .ok) → Busy w q
 busy-lower a g e = rw e (omega arith)
 
+-- the height does not fall below the bottom
+pub tops-fit : (m : List Slot) (height a : ℕ) (t : Tops) → Topmost (above (stackOf m height)) t → a ≤ t .count → a ≤ height
+tops-fit m height a t et h = let c = et .count in omega (arith, enough (above (stackOf m height)) a (omega arith), above-few (stackOf m height), length-stack m height)
+
 -- ---- an operator without a body
 
 module _ {w : List ℕ} {r : Registers} (code : Code) (n a : ℕ) (o : Op) (t : Tops) (g : Busy w r) (eo : o ≡ opOf n) (ea : (a ≡ arityOf o) × (a ≤ 2)) (et : Topmost (above (stackOf (slots w) (r .height))) t) where
@@ -101,15 +107,24 @@ module _ {w : List ℕ} {r : Registers} (code : Code) (n a : ℕ) (o : Op) (t : 
   pub plain-few : {r′ : Registers} → t .count < a → r′ ≡ failed r → Tried (execute code (Plain n)) w r w r′
   plain-few {r′} h q = exec-few code (Plain n) a t g (ea .1) pops-plain et h q
 
-  -- the height does not fall below the bottom
-  pub plain-fits : a ≤ t .count → a ≤ r .height
-  plain-fits h = let c = et .count in omega (arith, enough (above (stackOf (slots w) (r .height))) a (omega arith), above-few (stackOf (slots w) (r .height)), length-stack (slots w) (r .height))
+  module _ (x y : Value) (e : Effect) (h : a ≤ t .count) (ex : x ≡ valueIn (t .first)) (ey : y ≡ valueIn (t .second)) (ee : e ≡ effectOf o x y) where
+    plain-effect : e ≡ effectAt (Plain n) (abs w r)
+    unfolding effectAt performed
+    plain-effect = ee ∙ (rw (← eo, ← (et .first), ← (et .second), ex, ey))
 
-  pub plain-done : {w′ : List ℕ} {q r′ : Registers} (x y : Value) (e : Effect) → a ≤ t .count → x ≡ valueIn (t .first) → y ≡ valueIn (t .second) → e ≡ effectOf o x y → q ≡ trying r (r .height - a) (r .depth) (r .used) (r .ok)
-      → Tried (affected code e) w q w′ r′ → Tried (execute code (Plain n)) w r w′ r′
-  unfolding effectAt performed
-  plain-done {w′} {q} {r′} x y e h ex ey ee eq d =
-      exec-done code (Plain n) a t g (ea .1) pops-plain et e h (ee ∙ (rw (← eo, ← (et .first), ← (et .second), ex, ey))) eq d
+    module _ {w′ : List ℕ} {q r′ : Registers} (eq : q ≡ trying r (r .height - a) (r .depth) (r .used) (r .ok)) (d : Tried (affected code e) w q w′ r′) where
+      pub plain-done : Tried (execute code (Plain n)) w r w′ r′
+      plain-done = exec-done code (Plain n) a t g (ea .1) pops-plain et e h plain-effect eq d
+
+      pub plain-flat : (k : ℕ) → flat e ≡ true → (r′ .ok ≡ true → k ≡ r′ .height) × (r′ .ok ≡ false → k ≡ 129) → Flat (execute code (Plain n)) w r w′ k
+      plain-flat k f i = flat-of code (Plain n) (rw (← plain-effect) f) k r′ i plain-done
+
+  pub plain-fails : {r′ : Registers} (x y : Value) → a ≤ t .count → x ≡ valueIn (t .first) → y ≡ valueIn (t .second) → Fail ≡ effectOf o x y → r′ ≡ failed r → Tried (execute code (Plain n)) w r w r′
+  unfolding answer
+  plain-fails {r′} x y h ex ey ee q =
+      let p = trying r (r .height - a) (r .depth) (r .used) (r .ok) in
+      let u = exec-done code (Plain n) a t g (ea .1) pops-plain et Fail h (plain-effect x y Fail h ex ey ee) refl (is-fail code Fail (busy-lower a g refl) refl refl) in
+      tried-no {f = execute code (Plain n)} g (sym (u .does)) q
 
 -- ---- an operator with its body
 
@@ -120,9 +135,6 @@ module _ {w : List ℕ} {r : Registers} (code : Code) (n start len a : ℕ) (o :
 
   pub holder-few : {r′ : Registers} → t .count < a → r′ ≡ failed r → Tried (execute code (WithBody n start len)) w r w r′
   holder-few {r′} h q = exec-few code (WithBody n start len) a t g (ea .1) pops-holder et h q
-
-  pub holder-fits : a ≤ t .count → a ≤ r .height
-  holder-fits h = let c = et .count in omega (arith, enough (above (stackOf (slots w) (r .height))) a (omega arith), above-few (stackOf (slots w) (r .height)), length-stack (slots w) (r .height))
 
   pub holder-done : {w′ : List ℕ} {q r′ : Registers} (x : Value) (e : Effect) → a ≤ t .count → x ≡ valueIn (t .first) → e ≡ bodyEffect o start len x → q ≡ trying r (r .height - a) (r .depth) (r .used) (r .ok)
       → Tried (affected code e) w q w′ r′ → Tried (execute code (WithBody n start len)) w r w′ r′
@@ -232,12 +244,7 @@ module _ {w w₁ : List ℕ} {r q : Registers} (pre body : List ℕ) (c : Place)
 
 -- ---- a run
 
-run-turn : (code : Code) (n : ℕ) (s : State) → 0 < n → ended (s .contexts) ≡ false → run n code s ≡ run (n - 1) code (step code s)
-unfolding run
-run-turn code zero s h e = absurd (omega arith)
-run-turn code (suc n) s h e = let k : suc n - 1 ≡ n = omega arith in rw (e, k)
-
-not-ended : (m : List Slot) (d : ℕ) → 0 < d → ended (contextsOf m d) ≡ false
+pub not-ended : (m : List Slot) (d : ℕ) → 0 < d → ended (contextsOf m d) ≡ false
 unfolding ended
 not-ended m d h = rw (contexts-top m d h)
 
@@ -249,12 +256,6 @@ module _ {R : State} (pre body : List ℕ) (n : ℕ) (w : List ℕ) (r : Registe
   pub run-ended : 0 < n → r .depth ≡ 0 → abs w r ≡ R
   unfolding run ended contextsOf
   run-ended h e = let k : n ≡ suc (n - 1) = omega arith in rw e (rw (k, e) at inv)
-
-  pub run-on : (w′ : List ℕ) (r′ : Registers) → 0 < n → (r .depth ≡ 0 → ⊥) → Stepped pre body w r w′ r′ → run (n - 1) (both pre body) (abs w′ r′) ≡ R
-  run-on w′ r′ h nz d = (rw (d .does) (sym (run-turn (both pre body) n (abs w r) h (not-ended (slots w) (r .depth) (omega arith))))) ∙ inv
-
-pub run-aside : {A : List Value} (pre body w : List ℕ) (r : Registers) (w′ : List ℕ) (r′ : Registers) → aside w ≡ A → Stepped pre body w r w′ r′ → aside w′ ≡ A
-run-aside pre body w r w′ r′ e d = d .keeps ∙ e
 
 -- ---- some steps at once
 
@@ -269,7 +270,7 @@ unfolding run
 last-by code n s true h e f = not-on (sym (rw h at e) ∙ h)
 last-by code n s false h e f = rw h (f (rw h at e))
 
-run-last : (code : Code) (n : ℕ) (s : State) → ended (run n code s .contexts) ≡ false → run (suc n) code s ≡ step code (run n code s)
+pub run-last : (code : Code) (n : ℕ) (s : State) → ended (run n code s .contexts) ≡ false → run (suc n) code s ≡ step code (run n code s)
 unfolding run
 run-last code zero s e = rw e
 run-last code (suc n) s e = last-by code n s (ended (s .contexts)) refl e (λ h. run-last code n (step code s) h)
@@ -279,64 +280,7 @@ unfolding run
 both-by code k m s true h f = rw h (sym (run-stays code m s h))
 both-by code k m s false h f = rw h f
 
-run-both : (code : Code) (k m : ℕ) (s : State) → run (k + m) code s ≡ run m code (run k code s)
+pub run-both : (code : Code) (k m : ℕ) (s : State) → run (k + m) code s ≡ run m code (run k code s)
 unfolding run
 run-both code zero m s = let z : 0 + m ≡ m = omega arith in rw z
 run-both code (suc k) m s = let z : suc k + m ≡ suc (k + m) = omega arith in rw z (both-by code k m s (ended (s .contexts)) refl (run-both code k m (step code s)))
-
--- of a run some steps are made
-pub run-forth : {R : State} (pre body : List ℕ) (n : ℕ) (w : List ℕ) (r : Registers) (w′ : List ℕ) (r′ : Registers) → run n (both pre body) (abs w r) ≡ R → Forth pre body n w r w′ r′ → run (n - (r′ .steps - r .steps)) (both pre body) (abs w′ r′) ≡ R
-run-forth pre body n w r w′ r′ inv d =
-    let k = r′ .steps - r .steps in
-    let z : n ≡ k + (n - k) = omega (arith, d .within) in
-    rw (d .does) (sym (run-both (both pre body) k (n - k) (abs w r))) ∙ (rw z at inv)
-
-pub forth-aside : {A : List Value} (pre body : List ℕ) (n : ℕ) (w : List ℕ) (r : Registers) (w′ : List ℕ) (r′ : Registers) → aside w ≡ A → Forth pre body n w r w′ r′ → aside w′ ≡ A
-forth-aside pre body n w r w′ r′ e d = d .keeps ∙ e
-
-module _ (pre body : List ℕ) (most left : ℕ) (w₀ : List ℕ) (r₀ : Registers) (w : List ℕ) (r : Registers)
-    (few : left ≤ most) (sum : r .steps + left ≡ r₀ .steps + most) (same : aside w ≡ aside w₀) (inv : run (most - left) (both pre body) (abs w₀ r₀) ≡ abs w r) where
-  -- and one more
-  pub forth-step : (w′ : List ℕ) (r′ : Registers) → 0 < left → 0 < r .depth → Stepped pre body w r w′ r′ → Forth pre body most w₀ r₀ w′ r′
-  forth-step w′ r′ h deep d =
-      let z : r′ .steps - r₀ .steps ≡ suc (most - left) = omega (arith, d .counted) in
-      let alive : ended (run (most - left) (both pre body) (abs w₀ r₀) .contexts) ≡ false = rw inv (not-ended (slots w) (r .depth) deep) in
-      record {
-        good = d .good;
-        does = d .does ∙ (rw (z, run-last (both pre body) (most - left) (abs w₀ r₀) alive, inv));
-        keeps = d .keeps ∙ same;
-        some = omega (arith, d .counted);
-        within = omega (arith, d .counted);
-      }
-
-  pub forth-inv : (w′ : List ℕ) (r′ : Registers) → 0 < left → 0 < r .depth → Stepped pre body w r w′ r′ → run (most - (left - 1)) (both pre body) (abs w₀ r₀) ≡ abs w′ r′
-  forth-inv w′ r′ h deep d =
-      let z : most - (left - 1) ≡ suc (most - left) = omega arith in
-      let alive : ended (run (most - left) (both pre body) (abs w₀ r₀) .contexts) ≡ false = rw inv (not-ended (slots w) (r .depth) deep) in
-      rw (z, run-last (both pre body) (most - left) (abs w₀ r₀) alive, inv) (sym (d .does))
-
-  pub forth-out : Good w r → 0 < most → left ≤ 0 → Forth pre body most w₀ r₀ w r
-  forth-out g h l =
-      let z : r .steps - r₀ .steps ≡ most - left = omega arith in
-      record { good = g; does = rw z (sym inv); keeps = same; some = omega arith; within = omega arith }
-
--- none yet
-pub forth-none : (code : Code) (n : ℕ) (s : State) → run (n - n) code s ≡ s
-unfolding run
-forth-none code n s = let z : n - n ≡ 0 = omega arith in rw z
-
--- ---- a swift step
-
-module _ {w w₁ : List ℕ} {r q : Registers} (pre body : List ℕ) (depth : ℕ) (ed : r .depth ≡ depth) (c : Place) (s : Brief) (n : ℕ)
-    (here : (c .origin ≡ running (contextsOf (slots w) depth) .origin) × (c .start ≡ running (contextsOf (slots w) depth) .at))
-    (due : Briefly (foundAt (bytesOf (both pre body) (c .origin)) (c .start)) s) (known : s .known ≡ true) (en : n ≡ s .next) (be : Begun n w r w₁ q) (off : r .skipping ≡ false) where
-  swift-step : {w′ : List ℕ} {r′ : Registers} → Done (performs (both pre body) (s .literal)) w₁ q w′ r′ → Stepped pre body w r w′ r′
-  swift-step d =
-      step-do pre body c (record { literal = s .literal; next = s .next }) n false (rw ed here) (record { literal = due .literal known; next = due .next known }) en be (rw (be .skips, off)) refl d
-
-  module _ {w₂ : List ℕ} {p : Registers} (t : Tried (execute (both pre body) (s .literal)) w₁ q w₂ p) where
-    pub swift-fault : {w′ : List ℕ} {r′ : Registers} → p .ok ≡ false → Done fault w₂ q w′ r′ → Stepped pre body w r w′ r′
-    swift-fault o d = swift-step (goes-back (both pre body) (s .literal) (be .busy) t o d)
-
-    pub swift-settle : {w′ : List ℕ} {r′ : Registers} → p .ok ≡ true → Done settle w₂ p w′ r′ → Stepped pre body w r w′ r′
-    swift-settle o d = swift-step (goes-on (both pre body) (s .literal) (be .busy) t o d)

@@ -1,17 +1,20 @@
--- The literals that have a way of their own: told by their first bytes, and executed. Assumes nothing.
-use Prim.Native.Nat.{ℕ, _-_, _≤_, _<_}
+-- Literals executed several in a row. In order: operators by their number; a literal; several; a run. Assumes nothing.
+use Prim.Native.Nat.{ℕ, suc, _+_, _-_, _≤_, _<_}
 use native.Mathlib.Omega.{arith}
 use mathlib.Core.Path.{_≡_, refl, sym, ap, _∙_}
-use mathlib.Core.Bool.{Bool, true, false}
+use mathlib.Core.Bool.{Bool, true, false, cond, _||_}
 use mathlib.Core.Logic.{inl, inr}
 use mathlib.Core.List.{List, [], _∷_}
-use mathlib.Core.Option.{Option}
+use mathlib.Core.Option.{some}
 use types.Run.{OneOf}
-use borrow.Author.Tests.{le-leb}
+use denote.Enum.Declared.{tagOf}
+use borrow.Author.Tests.{le-leb, eqb-true}
+use lib.Dec.{eqb}
 use lib.IntN.{pos, _-ℤ_}
 use lib.ListN.{length, getD}
 use Rattle.numbers.specs.declared.Number as num
-use Rattle.table.specs.Slots.{slots}
+use Rattle.table.specs.declared.Slot.{Slot}
+use Rattle.table.specs.Slots.{slots, nil}
 use Rattle.tokens.specs.declared.Read.the-variants as read
 use Rattle.tokens.specs.Format.{bias}
 use Rattle.tokens.specs.declared.Form.{Form}
@@ -19,127 +22,303 @@ use Rattle.tokens.specs.declared.Form.the-variants as form
 use Rattle.tokens.specs.Token.{tokenAt}
 use Rattle.tokens.specs.Passing.{Shows}
 use Rattle.machine.specs.declared.Value.{Value}
+use Rattle.machine.specs.declared.Value.the-variants.{Number, Identifier, Vector, Operator}
 use Rattle.machine.specs.declared.Role.the-variants as role
 use Rattle.machine.specs.declared.Literal.{Literal}
-use Rattle.machine.specs.declared.Literal.the-variants.{Figure, Name, Text, Plain, WithBody}
+use Rattle.machine.specs.declared.Literal.the-variants.{Figure, Name, Plain}
 use Rattle.machine.specs.declared.Effect.{Effect}
-use Rattle.machine.specs.declared.Effect.the-variants.{Acts}
-use Rattle.machine.specs.declared.Next.the-variants.{Works, Remove, Tally}
+use Rattle.machine.specs.declared.Effect.the-variants.{Fail, Acts}
+use Rattle.machine.specs.declared.Next.the-variants.{Works, Call, Tally}
 use Rattle.machine.specs.declared.Work.the-variants.{Nothing, Repeat}
-use Rattle.machine.specs.declared.Op.the-variants.{OnFrame, Calls, OnStack, Tests, Reckons}
+use Rattle.machine.specs.declared.Op.{Op}
+use Rattle.machine.specs.declared.Op.the-variants.{OnVectors, OnFrame, Calls, OnStack, Tests, Reckons, Unknown}
 use Rattle.machine.specs.declared.FrameOp.{FrameOp}
 use Rattle.machine.specs.declared.FrameOp.the-variants.{Fget, Fset}
-use Rattle.machine.specs.declared.CallOp.{CallOp}
 use Rattle.machine.specs.declared.CallOp.the-variants.{Do}
-use Rattle.machine.specs.declared.StackOp.the-variants.{Pop}
-use Rattle.machine.specs.declared.TestOp.{TestOp}
-use Rattle.machine.specs.declared.TestOp.the-variants.{Gt}
+use Rattle.machine.specs.declared.StackOp.the-variants.{Pop, Dup, Count, Nop}
 use Rattle.machine.specs.declared.ArithOp.{ArithOp}
 use Rattle.machine.specs.declared.ArithOp.the-variants.{Add, Sub, Mul, Div}
-use Rattle.machine.specs.State.{State}
+use Rattle.machine.specs.State.{Entry, Context, State, running}
 use Rattle.machine.specs.State as state
-use Rattle.machine.specs.Skeleton.{oneOf, roleOf, solid}
+use Rattle.machine.specs.Skeleton.{holders, barred, oneOf, roleOf, solid}
 use Rattle.machine.specs.Literal.{Code, bytesOf, Found, operatorBy, foundBy, foundAt}
 use Rattle.machine.specs.Operators.{opOf, opIn, operators, arityOf, effectOf, popped, performed}
 use Rattle.machine.specs.Ops.Frame.{frameArity, frameEffect}
-use Rattle.machine.specs.Ops.Call.{callEffect}
+use Rattle.machine.specs.Operand.{asOperator}
+use Rattle.machine.specs.Ops.Call.{called, callEffect}
 use Rattle.machine.specs.Ops.Stack.{stackArity, stackEffect}
-use Rattle.machine.specs.Ops.Test.{testArity, testEffect}
 use Rattle.machine.specs.Ops.Arith.{arithArity, arithEffect}
-use Rattle.machine.specs.Contexts.{above}
-use Rattle.machine.specs.Engine.{provided, pops, repeat, worked, remove, tally, does, affected}
-use Rattle.machine.specs.Step.{effectAt, execute}
+use Rattle.machine.specs.Contexts.{above, beneath, fault, settle}
+use Rattle.machine.specs.Engine.{provided, pops, repeat, worked, tally, call, does, affected}
+use Rattle.machine.specs.Step.{effectAt, execute, executed, literalStep, begunIn, begun, ended, stepBy, dueIn, step, run}
 use Rattle.machine.proofs.Inside.{token-inside}
+use Rattle.machine.proofs.Value.{the-type}
+use Rattle.literals.specs.declared.Due.{Due}
+use Rattle.literals.specs.Dues.{Is}
 use Rattle.literals.specs.Names.{both}
+use Rattle.state.specs.declared.Place.{Place}
 use Rattle.state.specs.declared.Registers.{Registers}
 use Rattle.state.specs.declared.Tops.{Tops}
-use Rattle.state.specs.Layout.{valueIn, stackOf, Busy, Tried, Topmost}
+use Rattle.state.specs.Layout.{valueIn, stackOf, contextsOf, contextAt, contextIn, goesTo, aside, abs, Good, Busy, Done, answer, Tried, Begun, Topmost}
+use Rattle.state.proofs.Parts.{wide, contexts-top}
 use Rattle.state.proofs.Cutting.{over-above}
 use Rattle.state.proofs.Trying.{trying, failed, tried-as}
+use Rattle.state.proofs.Entering.{goes-home, goes-nowhere}
 use Rattle.state.proofs.Ending.{not-on}
-use Rattle.engine.specs.declared.Brief.{Brief}
-use Rattle.engine.specs.Swift.{swift, Swift, Briefly}
-use Rattle.engine.proofs.ByOrigin.{solid-inside}
-use Rattle.engine.proofs.Acting.{nothing-done}
-use Rattle.engine.proofs.Stepping.{busy-lower, plain-few, plain-done}
+use Rattle.engine.specs.Bodies.{Short, performs, Stepped}
+use Rattle.engine.specs.Swift.{flat, marked, raised, Flat, stepped, Ready, Strode, PastDo, Sprinted, Onward}
+use Rattle.engine.proofs.ByOrigin.{bytes-short, solid-inside}
+use Rattle.engine.proofs.Acting.{nothing-done, is-acts, by-call}
+use Rattle.engine.proofs.Level.{flat-made, flat-of}
+use Rattle.engine.proofs.Stepping.{busy-lower, plain-few, plain-done, plain-fails, step-do, goes-on, goes-back, run-last, run-both, not-ended}
 
--- ---- which literal is due
+-- ---- an operator that the table has is no part of the skeleton
 
-role-1 : roleOf 1 ≡ role.Plain
-unfolding roleOf oneOf
-role-1 = refl
+abbrev pub known : Op → Bool
+known (OnVectors k) = true
+known (OnFrame k) = true
+known (Calls k) = true
+known (OnStack k) = true
+known (Tests k) = true
+known (Reckons k) = true
+known Unknown = false
 
-role-20 : roleOf 20 ≡ role.Plain
-unfolding roleOf oneOf
-role-20 = refl
+abbrev Unknowns : List ℕ → Type 0
+Unknowns [] = Unit
+Unknowns (k ∷ ks) = (opOf k ≡ Unknown) × Unknowns ks
 
-role-21 : roleOf 21 ≡ role.Plain
-unfolding roleOf oneOf
-role-21 = refl
+closing-unknown : Unknowns (107 ∷ [])
+unfolding opOf opIn operators
+closing-unknown = (refl, tt)
 
-role-180 : roleOf 180 ≡ role.Plain
-unfolding roleOf oneOf
-role-180 = refl
+holders-unknown : Unknowns holders
+unfolding opOf opIn operators
+holders-unknown = (refl, (refl, (refl, (refl, (refl, (refl, tt))))))
 
-role-181 : roleOf 181 ≡ role.Plain
-unfolding roleOf oneOf
-role-181 = refl
+barred-unknown : Unknowns barred
+unfolding opOf opIn operators
+barred-unknown = (refl, (refl, (refl, (refl, tt))))
 
-role-188 : roleOf 188 ≡ role.Plain
-unfolding roleOf oneOf
-role-188 = refl
+unknown-by : (n k : ℕ) (ks : List ℕ) (b : Bool) → eqb n k ≡ b → opOf k ≡ Unknown → (oneOf ks n ≡ true → opOf n ≡ Unknown) → b || oneOf ks n ≡ true → opOf n ≡ Unknown
+unknown-by n k ks true h u f i = rw (eqb-true n k h) u
+unknown-by n k ks false h u f i = f i
 
-role-192 : roleOf 192 ≡ role.Plain
-unfolding roleOf oneOf
-role-192 = refl
+unknown-in : (l : List ℕ) (n : ℕ) → Unknowns l → oneOf l n ≡ true → opOf n ≡ Unknown
+unfolding oneOf
+unknown-in [] n u e = not-on e
+unknown-in (k ∷ ks) n u e = unknown-by n k ks (eqb n k) refl (u .0) (λ h. unknown-in ks n (u .1) h) e
 
-role-208 : roleOf 208 ≡ role.Plain
-unfolding roleOf oneOf
-role-208 = refl
+clash : {X : Type 0} (o : Op) → o ≡ Unknown → known o ≡ true → X
+clash o e k = let z : known Unknown ≡ true = rw e at k in not-on z
 
-role-231 : roleOf 231 ≡ role.Plain
-unfolding roleOf oneOf
-role-231 = refl
+pub op-role : (n : ℕ) (o : Op) → o ≡ opOf n → known o ≡ true → roleOf n ≡ role.Plain
+unfolding roleOf
+op-role n o e k = pick (eqb n 107) refl (oneOf holders n) refl (oneOf barred n) refl
+  where
+    pick : (a : Bool) → eqb n 107 ≡ a → (b : Bool) → oneOf holders n ≡ b → (c : Bool) → oneOf barred n ≡ c → cond a role.Closes (cond b role.Holds (cond c role.Barred role.Plain)) ≡ role.Plain
+    pick true h b i c j = clash o (e ∙ (rw (eqb-true n 107 h) (closing-unknown .0))) k
+    pick false h true i c j = clash o (e ∙ unknown-in holders n holders-unknown i) k
+    pick false h false i true j = clash o (e ∙ unknown-in barred n barred-unknown j) k
+    pick false h false i false j = refl
 
-role-201 : roleOf 201 ≡ role.Plain
-unfolding roleOf oneOf
-role-201 = refl
+flat-known : (o : Op) (x y : Value) → flat (effectOf o x y) ≡ true → known o ≡ true
+unfolding effectOf
+flat-known (OnVectors k) x y f = refl
+flat-known (OnFrame k) x y f = refl
+flat-known (Calls k) x y f = refl
+flat-known (OnStack k) x y f = refl
+flat-known (Tests k) x y f = refl
+flat-known (Reckons k) x y f = refl
+flat-known Unknown x y f = not-on f
 
-role-214 : roleOf 214 ≡ role.Plain
-unfolding roleOf oneOf
-role-214 = refl
+pub flat-role : (n : ℕ) (o : Op) (x y : Value) (e : Effect) → o ≡ opOf n → e ≡ effectOf o x y → flat e ≡ true → roleOf n ≡ role.Plain
+flat-role n o x y e i j f = op-role n o i (flat-known o x y (rw (← j) f))
 
-role-210 : roleOf 210 ≡ role.Plain
-unfolding roleOf oneOf
-role-210 = refl
+-- ---- operators by number
 
-role-204 : roleOf 204 ≡ role.Plain
-unfolding roleOf oneOf
-role-204 = refl
+fget-op : OnFrame Fget ≡ opOf 20
+unfolding opOf opIn operators
+fget-op = refl
 
--- none of them holds a body, opens or closes one
-swift-role : (n : ℕ) → OneOf swift n → roleOf n ≡ role.Plain
-swift-role n (inl e) = rw e role-1
-swift-role n (inr (inl e)) = rw e role-20
-swift-role n (inr (inr (inl e))) = rw e role-21
-swift-role n (inr (inr (inr (inl e)))) = rw e role-180
-swift-role n (inr (inr (inr (inr (inl e))))) = rw e role-181
-swift-role n (inr (inr (inr (inr (inr (inl e)))))) = rw e role-188
-swift-role n (inr (inr (inr (inr (inr (inr (inl e))))))) = rw e role-192
-swift-role n (inr (inr (inr (inr (inr (inr (inr (inl e)))))))) = rw e role-208
-swift-role n (inr (inr (inr (inr (inr (inr (inr (inr (inl e))))))))) = rw e role-231
-swift-role n (inr (inr (inr (inr (inr (inr (inr (inr (inr (inl e)))))))))) = rw e role-201
-swift-role n (inr (inr (inr (inr (inr (inr (inr (inr (inr (inr (inl e))))))))))) = rw e role-204
-swift-role n (inr (inr (inr (inr (inr (inr (inr (inr (inr (inr (inr (inl e)))))))))))) = rw e role-210
-swift-role n (inr (inr (inr (inr (inr (inr (inr (inr (inr (inr (inr (inr e)))))))))))) = rw e role-214
+fset-op : OnFrame Fset ≡ opOf 21
+unfolding opOf opIn operators
+fset-op = refl
 
-pub brief-other : (f : Found) (r : Brief) → (r .known ≡ false) × (r .next ≡ 0) → Briefly f r
-brief-other f r h = record { literal = λ e. not-on (sym (h .0) ∙ e); next = λ e. not-on (sym (h .0) ∙ e); swift = λ e. not-on (sym (h .0) ∙ e); fits = omega (arith, h .1) }
+pop-op : OnStack Pop ≡ opOf 180
+unfolding opOf opIn operators
+pop-op = refl
 
-pub brief-swift : (b : List ℕ) (n next past : ℕ) → OneOf swift n → past ≡ solid b next → length b ≤ 16777215 → next ≤ length b → Briefly (operatorBy (roleOf n) b n next) (record { known = true; literal = Plain n; next = past })
-unfolding operatorBy
-brief-swift b n next past s e l h =
-    rw (swift-role n s) (record { literal = λ k. refl; next = λ k. e; swift = λ k. s; fits = omega (arith, e, solid-inside b next h) })
+dup-op : OnStack Dup ≡ opOf 181
+unfolding opOf opIn operators
+dup-op = refl
+
+count-op : OnStack Count ≡ opOf 188
+unfolding opOf opIn operators
+count-op = refl
+
+do-op : Calls Do ≡ opOf 231
+unfolding opOf opIn operators
+do-op = refl
+
+nop-op : OnStack Nop ≡ opOf 1
+unfolding opOf opIn operators
+nop-op = refl
+
+add-op : Reckons Add ≡ opOf 201
+unfolding opOf opIn operators
+add-op = refl
+
+div-op : Reckons Div ≡ opOf 204
+unfolding opOf opIn operators
+div-op = refl
+
+mul-op : Reckons Mul ≡ opOf 210
+unfolding opOf opIn operators
+mul-op = refl
+
+sub-op : Reckons Sub ≡ opOf 214
+unfolding opOf opIn operators
+sub-op = refl
+
+-- ADD, DIV, MUL, SUB
+module _ (n : ℕ) where
+  pub is-add : n ≡ 201 → (Reckons Add ≡ opOf n) × (2 ≡ arityOf (Reckons Add))
+  unfolding arityOf arithArity
+  is-add e = (rw e add-op, refl)
+
+  pub is-div : n ≡ 204 → (Reckons Div ≡ opOf n) × (2 ≡ arityOf (Reckons Div))
+  unfolding arityOf arithArity
+  is-div e = (rw e div-op, refl)
+
+  pub is-mul : n ≡ 210 → (Reckons Mul ≡ opOf n) × (2 ≡ arityOf (Reckons Mul))
+  unfolding arityOf arithArity
+  is-mul e = (rw e mul-op, refl)
+
+  pub is-sub : OneOf (201 ∷ 204 ∷ 210 ∷ 214 ∷ []) n → (n ≡ 201 → ⊥) → (n ≡ 204 → ⊥) → (n ≡ 210 → ⊥) → (Reckons Sub ≡ opOf n) × (2 ≡ arityOf (Reckons Sub))
+  unfolding arityOf arithArity
+  is-sub (inl e) f g h = absurd (f e)
+  is-sub (inr (inl e)) f g h = absurd (g e)
+  is-sub (inr (inr (inl e))) f g h = absurd (h e)
+  is-sub (inr (inr (inr e))) f g h = (rw e sub-op, refl)
+
+-- ---- what they do
+
+pub frame-one : (k : FrameOp) → (1 ≡ arityOf (OnFrame k)) × (1 ≤ 2)
+unfolding arityOf frameArity
+frame-one Fget = (refl, omega arith)
+frame-one Fset = (refl, omega arith)
+
+module _ (e : Effect) (x y : Value) where
+  pub by-frame : (k : FrameOp) → e ≡ frameEffect k x → e ≡ effectOf (OnFrame k) x y
+  unfolding effectOf
+  by-frame k i = i
+
+  pub by-arith : (k : ArithOp) → e ≡ arithEffect k x y → e ≡ effectOf (Reckons k) x y
+  unfolding effectOf
+  by-arith k i = i
+
+pop-one : (1 ≡ arityOf (OnStack Pop)) × (1 ≤ 2)
+unfolding arityOf stackArity
+pop-one = (refl, omega arith)
+
+pop-effect : (x y : Value) → Acts (Works Nothing) ≡ effectOf (OnStack Pop) x y
+unfolding effectOf stackEffect
+pop-effect x y = refl
+
+-- operators that pop nothing before the engine's part
+
+dup-none : popped (Plain 181) ≡ 0
+unfolding popped stackArity arityOf
+dup-none = rw (← dup-op)
+
+dup-effect : (x y : Value) → performed (Plain 181) x y ≡ Acts (Works (Repeat 1))
+unfolding performed effectOf stackEffect
+dup-effect x y = rw (← dup-op)
+
+count-none : popped (Plain 188) ≡ 0
+unfolding popped stackArity arityOf
+count-none = rw (← count-op)
+
+count-effect : (x y : Value) → performed (Plain 188) x y ≡ Acts Tally
+unfolding performed effectOf stackEffect
+count-effect x y = rw (← count-op)
+
+nop-none : popped (Plain 1) ≡ 0
+unfolding popped stackArity arityOf
+nop-none = rw (← nop-op)
+
+nop-effect : (x y : Value) → performed (Plain 1) x y ≡ Acts (Works Nothing)
+unfolding performed effectOf stackEffect
+nop-effect x y = rw (← nop-op)
+
+once-flat : (n : ℕ) (e : Effect) → ((x y : Value) → performed (Plain n) x y ≡ e) → (s : State) → flat e ≡ true → flat (effectAt (Plain n) s) ≡ true
+unfolding effectAt
+once-flat n e i s f = let vs = above (s .stack) in rw (i (getD vs 0 state.zero) (getD vs 1 state.zero)) f
+
+module _ {w w′ : List ℕ} {r : Registers} (code : Code) where
+  rests : {r′ : Registers} → Tried (worked code Nothing) w r w′ r′ → Tried (affected code (Acts (Works Nothing))) w r w′ r′
+  unfolding affected does
+  rests t = t
+
+  repeats : {r′ : Registers} → Tried (repeat 1) w r w′ r′ → Tried (affected code (Acts (Works (Repeat 1)))) w r w′ r′
+  unfolding affected does worked
+  repeats t = t
+
+  tallies : {r′ : Registers} → Tried tally w r w′ r′ → Tried (affected code (Acts Tally)) w r w′ r′
+  unfolding affected does
+  tallies t = t
+
+  module _ (n : ℕ) (e : Effect) (z : popped (Plain n) ≡ 0) (i : (x y : Value) → performed (Plain n) x y ≡ e) where
+    at-once : {r′ : Registers} → Tried (affected code e) w r w′ r′ → Tried (execute code (Plain n)) w r w′ r′
+    unfolding execute provided pops effectAt
+    at-once t =
+        let vs = above (stackOf (slots w) (r .height)) in
+        tried-as (rw (z, i (getD vs 0 state.zero) (getD vs 1 state.zero), le-leb 0 (length vs) (omega arith), over-above (stackOf (slots w) (r .height)))) t
+
+  module _ (n h : ℕ) (p : Registers) (a : (p .ok ≡ true → h ≡ p .height) × (p .ok ≡ false → h ≡ 129)) where
+    pub is-dup : n ≡ 181 → Tried (repeat 1) w r w′ p → Flat (execute code (Plain n)) w r w′ h × (h ≤ 128 → roleOf n ≡ role.Plain)
+    is-dup e t =
+        rw e
+        (flat-of code (Plain 181) (once-flat 181 (Acts (Works (Repeat 1))) dup-effect (abs w r) refl) h p a (at-once 181 (Acts (Works (Repeat 1))) dup-none dup-effect (repeats t)), λ _. op-role 181 (OnStack Dup) dup-op refl)
+
+    pub is-count : n ≡ 188 → Tried tally w r w′ p → Flat (execute code (Plain n)) w r w′ h × (h ≤ 128 → roleOf n ≡ role.Plain)
+    is-count e t =
+        rw e
+        (flat-of code (Plain 188) (once-flat 188 (Acts Tally) count-effect (abs w r) refl) h p a (at-once 188 (Acts Tally) count-none count-effect (tallies t)), λ _. op-role 188 (OnStack Count) count-op refl)
+
+-- values popped, the height that is left
+pub pop-flat : {w : List ℕ} {r : Registers} (code : Code) (t : Tops) → Busy w r → Topmost (above (stackOf (slots w) (r .height))) t → 1 ≤ t .count → 1 ≤ r .height → Flat (execute code (Plain 180)) w r w (r .height - 1)
+unfolding effectAt performed
+pop-flat {w} {r} code t g et h k =
+    let q = trying r (r .height - 1) (r .depth) (r .used) (r .ok) in
+    flat-made code (Plain 180) (rw (← pop-op) (ap flat (sym (pop-effect _ _)))) (r .height - 1) (omega arith)
+    (plain-done code 180 1 (OnStack Pop) t g pop-op pop-one et (valueIn (t .first)) (valueIn (t .second)) (Acts (Works Nothing)) h refl refl (pop-effect (valueIn (t .first)) (valueIn (t .second))) refl
+    (rests code (nothing-done code (busy-lower 1 g refl) refl)))
+
+pub is-nop : {w : List ℕ} {r : Registers} (code : Code) (n : ℕ) → Busy w r → n ≡ 1 → Flat (execute code (Plain n)) w r w (r .height) × (r .height ≤ 128 → roleOf n ≡ role.Plain)
+is-nop {w} {r} code n g e =
+    rw e
+    (flat-made code (Plain 1) (once-flat 1 (Acts (Works Nothing)) nop-effect (abs w r) refl) (r .height) (g .stack-fits) (at-once code 1 (Acts (Works Nothing)) nop-none nop-effect (rests code (nothing-done code g refl))), λ _. op-role 1 (OnStack Nop) nop-op refl)
+
+-- the others by number
+module _ {w w′ : List ℕ} {r : Registers} (code : Code) (n h : ℕ) where
+  pub is-pop : n ≡ 180 → Flat (execute code (Plain 180)) w r w′ h → Flat (execute code (Plain n)) w r w′ h × (h ≤ 128 → roleOf n ≡ role.Plain)
+  is-pop e t = rw e (t, λ _. op-role 180 (OnStack Pop) pop-op refl)
+
+  module _ (o : Op) (k : known o ≡ true) (t : (c : Code) (m : ℕ) → o ≡ opOf m → Flat (execute c (Plain m)) w r w′ h) where
+    by-op : o ≡ opOf n → Flat (execute code (Plain n)) w r w′ h × (h ≤ 128 → roleOf n ≡ role.Plain)
+    by-op e = (t code n e, λ _. op-role n o e k)
+
+  pub is-fget : n ≡ 20 → ((c : Code) (m : ℕ) → OnFrame Fget ≡ opOf m → Flat (execute c (Plain m)) w r w′ h) → Flat (execute code (Plain n)) w r w′ h × (h ≤ 128 → roleOf n ≡ role.Plain)
+  is-fget e t = by-op (OnFrame Fget) refl t (rw e fget-op)
+
+  pub is-fset : n ≡ 21 → ((c : Code) (m : ℕ) → OnFrame Fset ≡ opOf m → Flat (execute c (Plain m)) w r w′ h) → Flat (execute code (Plain n)) w r w′ h × (h ≤ 128 → roleOf n ≡ role.Plain)
+  is-fset e t = by-op (OnFrame Fset) refl t (rw e fset-op)
+
+  pub is-reckon : (o : ArithOp) → Reckons o ≡ opOf n → ((c : Code) (m : ℕ) → Reckons o ≡ opOf m → Flat (execute c (Plain m)) w r w′ h) → Flat (execute code (Plain n)) w r w′ h × (h ≤ 128 → roleOf n ≡ role.Plain)
+  is-reckon o e t = by-op (Reckons o) refl t e
+
+-- ---- the literal at a place
 
 module _ (b : List ℕ) (at : ℕ) (f : Form) (shows : Shows b at f) where
   pub number-inside : (raw next : ℕ) → f ≡ form.Number raw next → next ≤ length b
@@ -152,254 +331,254 @@ module _ (b : List ℕ) (at : ℕ) (f : Form) (shows : Shows b at f) where
       let t : tokenAt b at ≡ read.Operator n next = rw e at shows in
       (rw t at (token-inside b at)) .1
 
-  pub brief-number : (raw next : ℕ) (a : num.Number) (past : ℕ) → f ≡ form.Number raw next → a ≡ record { num = pos raw -ℤ pos bias; den = 1 } → past ≡ solid b next → length b ≤ 16777215
-      → Briefly (foundAt b at) (record { known = true; literal = Figure a; next = past })
+  pub found-number : (raw next past : ℕ) (a : num.Number) → f ≡ form.Number raw next → a ≡ record { num = pos raw -ℤ pos bias; den = 1 } → past ≡ solid b next → foundAt b at ≡ record { literal = Figure a; next = past }
   unfolding foundAt foundBy
-  brief-number raw next a past e en ep l =
+  found-number raw next past a e en ep =
       let t : tokenAt b at ≡ read.Number (record { num = pos raw -ℤ pos bias; den = 1 }) next = rw e at shows in
-      rw t (record { literal = λ o. ap Figure en; next = λ o. ep; swift = λ o. tt; fits = omega (arith, ep, solid-inside b next (number-inside raw next e)) })
+      rw (t, en, ep)
 
-  pub brief-operator : (n next : ℕ) (r : Brief) → f ≡ form.Operator n next → Briefly (operatorBy (roleOf n) b n next) r → Briefly (foundAt b at) r
-  unfolding foundAt foundBy
-  brief-operator n next r e k =
+  pub found-operator : (n next past : ℕ) → f ≡ form.Operator n next → past ≡ solid b next → roleOf n ≡ role.Plain → foundAt b at ≡ record { literal = Plain n; next = past }
+  unfolding foundAt foundBy operatorBy
+  found-operator n next past e ep er =
       let t : tokenAt b at ≡ read.Operator n next = rw e at shows in
-      rw t k
+      rw (t, er, ep)
 
-module _ (pre body : List ℕ) (o place at : ℕ) (r : Brief) (ea : at ≡ place) where
-  pub brief-pre : o ≡ 0 → Briefly (foundAt pre at) r → Briefly (foundAt (bytesOf (both pre body) o) place) r
-  brief-pre e t = rw (e, ← ea) t
+pub figure-flat : (a : num.Number) (s : State) → flat (effectAt (Figure a) s) ≡ true
+unfolding effectAt performed
+figure-flat a s = refl
 
-  pub brief-page : o ≡ 1 → Briefly (foundAt body at) r → Briefly (foundAt (bytesOf (both pre body) o) place) r
-  brief-page e t = rw (e, ← ea) t
+pub name-flat : (start len : ℕ) (s : State) → flat (effectAt (Name start len) s) ≡ true
+unfolding effectAt performed
+name-flat start len s = refl
 
--- ---- the operators by number
+pub found-due : (f : Found) (d : Due) (x : Literal) → Is f d → d .literal ≡ x → f ≡ record { literal = x; next = d .next }
+found-due f d x i e = λ k. record { literal = (sym (i .literal) ∙ e) k; next = (sym (i .next)) k }
 
-pub fget-op : OnFrame Fget ≡ opOf 20
-unfolding opOf opIn operators
-fget-op = refl
+pub found-do : (b : List ℕ) (at : ℕ) (f : Form) (n next past : ℕ) → Shows b at f → f ≡ form.Operator n next → n ≡ 231 → past ≡ solid b next → length b ≤ 16777215 → PastDo b at past × (past ≤ 16777215)
+found-do b at f n next past shows e en ep l =
+    (λ h. found-operator b at f shows 231 next past (rw en at e) ep (op-role 231 (Calls Do) do-op refl), omega (arith, ep, solid-inside b next (operator-inside b at f shows n next e)))
 
-pub fset-op : OnFrame Fset ≡ opOf 21
-unfolding opOf opIn operators
-fset-op = refl
+-- ---- a step but for the end of bodies
 
-pub pop-op : OnStack Pop ≡ opOf 180
-unfolding opOf opIn operators
-pop-op = refl
+begun-stack : (next : ℕ) (cs : List Context) (s : State) → begunIn next cs s .stack ≡ s .stack
+unfolding begunIn
+begun-stack next [] s = refl
+begun-stack next (c ∷ cs) s = refl
 
-pub do-op : Calls Do ≡ opOf 231
-unfolding opOf opIn operators
-do-op = refl
+pub place-is : (m : List Slot) (d at : ℕ) → 0 < d → at ≡ running (contextsOf m d) .at → at ≡ getD m (1752 + (d - 1)) nil .b
+unfolding running contextAt contextIn
+place-is m d at h e = rw (contexts-top m d h) at e
 
-pub gt-op : Tests Gt ≡ opOf 208
-unfolding opOf opIn operators
-gt-op = refl
+module _ {code : Code} {b w : List ℕ} {at : ℕ} {r : Registers} (ready : Ready code b at w r) where
+  pub strode-none : (h : ℕ) → 128 < h → Strode code at w r w h
+  strode-none h more = record {
+    does = λ k. absurd (omega arith);
+    keeps = λ k. absurd (omega arith);
+    low = λ k. absurd (omega arith);
+    back = λ k. goes-nowhere (slots w) (r .depth) at (place-is (slots w) (r .depth) at (ready .runs) (ready .place));
+  }
 
-pub frame-one : (k : FrameOp) → (1 ≡ arityOf (OnFrame k)) × (1 ≤ 2)
-unfolding arityOf frameArity
-frame-one Fget = (refl, omega arith)
-frame-one Fset = (refl, omega arith)
+  module _ {w₁ : List ℕ} {q : Registers} (past n : ℕ) (en : n ≡ past) (be : Begun n w r w₁ q) where
+    -- no mark came
+    pub marked-begun : marked w₁ (q .height) ≡ marked w (r .height)
+    unfolding begun
+    marked-begun = ap (λ (s : State). length (beneath (s .stack))) (be .does) ∙ ap (λ (l : List Entry). length (beneath l)) (begun-stack n (contextsOf (slots w) (r .depth)) (abs w r))
 
-pub pop-one : (1 ≡ arityOf (OnStack Pop)) × (1 ≤ 2)
-unfolding arityOf stackArity
-pop-one = (refl, omega arith)
+    module _ {w′ : List ℕ} (x : Literal) (h : ℕ) (found : h ≤ 128 → foundAt b at ≡ record { literal = x; next = past }) (t : Flat (execute code x) w₁ q w′ h) where
+      strode-step : h ≤ 128 → step code (abs w r) ≡ executed (abs w₁ q) (execute code x (abs w₁ q))
+      unfolding step stepBy dueIn literalStep
+      strode-step few = rw (← (ready .bytes), ← (ready .place), found few, ← en, ← (be .does), ready .on)
 
-pub do-one : (1 ≡ arityOf (Calls Do)) × (1 ≤ 2)
+      strode-does : h ≤ 128 → settle (abs w′ (stepped r h)) ≡ step code (abs w r)
+      unfolding executed answer
+      strode-does few =
+          let d : some (abs w′ (raised q h)) ≡ execute code x (abs w₁ q) = t .made few .does in
+          let e : abs w′ (raised q h) ≡ abs w′ (stepped r h) = rw (be .registers) in
+          sym (strode-step few ∙ (rw (← d, e)))
+
+      pub strode : Strode code at w r w′ h
+      strode =
+          let room = wide w (ready .good .room) in
+          record {
+            does = strode-does;
+            keeps = λ few. t .made few .keeps ∙ be .keeps;
+            low = λ few. omega (arith, t .low few, marked-begun);
+            back =
+                λ more.
+                rw (t .back more, be .moves)
+                (goes-home (slots w) (r .depth) n at (omega (arith, room, ready .good .depth-fits, ready .runs)) (place-is (slots w) (r .depth) at (ready .runs) (ready .place)));
+          }
+
+pub bytes-fit : (pre body b : List ℕ) {at : ℕ} {w : List ℕ} {r : Registers} → Ready (both pre body) b at w r → Short pre body → length b ≤ 16777215
+bytes-fit pre body b {at} {w} {r} ready short = rw (ready .bytes) (bytes-short pre body (running (contextsOf (slots w) (r .depth)) .origin) short)
+
+pub past-word : (pre body b : List ℕ) {at : ℕ} {w : List ℕ} {r : Registers} (next past : ℕ) → Ready (both pre body) b at w r → Short pre body → next ≤ length b → past ≡ solid b next → past < 4294967296
+past-word pre body b next past ready short h e = omega (arith, bytes-fit pre body b ready short, e, solid-inside b next h)
+
+-- ---- DO
+
+do-one : (1 ≡ arityOf (Calls Do)) × (1 ≤ 2)
 unfolding arityOf
 do-one = (refl, omega arith)
 
-pub gt-two : (2 ≡ arityOf (Tests Gt)) × (2 ≤ 2)
-unfolding arityOf testArity
-gt-two = (refl, omega arith)
+-- the tags of the other values
+no-operator : (x y : Value) → OneOf (0 ∷ 1 ∷ 2 ∷ []) (tagOf the-type x) → Fail ≡ effectOf (Calls Do) x y
+unfolding effectOf callEffect called asOperator
+no-operator (Number a) y h = refl
+no-operator (Identifier o s l) y h = refl
+no-operator (Vector f l c) y h = refl
+no-operator (Operator o s l f) y (inl e) = absurd (omega arith)
+no-operator (Operator o s l f) y (inr (inl e)) = absurd (omega arith)
+no-operator (Operator o s l f) y (inr (inr e)) = absurd (omega arith)
 
-add-is : Reckons Add ≡ opOf 201
-unfolding opOf opIn operators
-add-is = refl
+do-call : (o s l f : ℕ) (x y : Value) → x ≡ Operator o s l f → Acts (Call o s l f) ≡ effectOf (Calls Do) x y
+unfolding effectOf callEffect called asOperator
+do-call o s l f x y e = rw e
 
-sub-is : Reckons Sub ≡ opOf 214
-unfolding opOf opIn operators
-sub-is = refl
+module _ {w : List ℕ} {r : Registers} (code : Code) (t : Tops) (g : Busy w r) (et : Topmost (above (stackOf (slots w) (r .height))) t) where
+  pub do-few : {r′ : Registers} → t .count < 1 → r′ ≡ failed r → Tried (execute code (Plain 231)) w r w r′
+  do-few {r′} h q = plain-few code 231 1 (Calls Do) t g do-op do-one et h q
 
-mul-is : Reckons Mul ≡ opOf 210
-unfolding opOf opIn operators
-mul-is = refl
+  module _ (h : 1 ≤ t .count) (x : Value) (ex : x ≡ valueIn (t .first)) where
+    pub do-made : {w′ : List ℕ} {q r′ : Registers} (o s l f : ℕ) → x ≡ Operator o s l f → q ≡ trying r (r .height - 1) (r .depth) (r .used) (r .ok) → Tried (call code o s l f) w q w′ r′ → Tried (execute code (Plain 231)) w r w′ r′
+    do-made {w′} {q} {r′} o s l f e eq d =
+        plain-done code 231 1 (Calls Do) t g do-op do-one et x (valueIn (t .second)) (Acts (Call o s l f)) h ex refl (do-call o s l f x (valueIn (t .second)) e) eq (is-acts code (Acts (Call o s l f)) (Call o s l f) refl (by-call code (Call o s l f) o s l f refl d))
 
-div-is : Reckons Div ≡ opOf 204
-unfolding opOf opIn operators
-div-is = refl
+    pub do-fails : {r′ : Registers} → OneOf (0 ∷ 1 ∷ 2 ∷ []) (tagOf the-type x) → r′ ≡ failed r → Tried (execute code (Plain 231)) w r w r′
+    do-fails {r′} bad q =
+        plain-fails code 231 1 (Calls Do) t g do-op do-one et x (valueIn (t .second)) h ex refl (no-operator x (valueIn (t .second)) bad) q
 
--- ADD, DIV, MUL, SUB
-module _ (n : ℕ) where
-  pub add-op : n ≡ 201 → Reckons Add ≡ opOf n
-  add-op e = rw e add-is
+module _ {w w₁ : List ℕ} {r q : Registers} (pre body b : List ℕ) (c : Place) (at past n : ℕ)
+    (here : (c .origin ≡ running (contextsOf (slots w) (r .depth)) .origin) × (c .start ≡ running (contextsOf (slots w) (r .depth)) .at)) (eb : b ≡ bytesOf (both pre body) (c .origin)) (ea : at ≡ c .start)
+    (due : PastDo b at past) (there : past ≡ 0 → ⊥) (en : n ≡ past) (be : Begun n w r w₁ q) (off : r .skipping ≡ false) where
+  is-do : Is (foundAt (bytesOf (both pre body) (c .origin)) (c .start)) (record { literal = Plain 231; next = past })
+  is-do = rw (← eb, ← ea, due (omega arith)) (record { literal = refl; next = refl })
 
-  pub div-op : n ≡ 204 → Reckons Div ≡ opOf n
-  div-op e = rw e div-is
+  do-step : {w′ : List ℕ} {r′ : Registers} → Done (performs (both pre body) (Plain 231)) w₁ q w′ r′ → Stepped pre body w r w′ r′
+  do-step d = step-do pre body c (record { literal = Plain 231; next = past }) n false here is-do en be (rw (be .skips, off)) refl d
 
-  pub mul-op : n ≡ 210 → Reckons Mul ≡ opOf n
-  mul-op e = rw e mul-is
+  module _ {w₂ : List ℕ} {p : Registers} (t : Tried (execute (both pre body) (Plain 231)) w₁ q w₂ p) where
+    pub do-settles : {w′ : List ℕ} {r′ : Registers} → p .ok ≡ true → Done settle w₂ p w′ r′ → Stepped pre body w r w′ r′
+    do-settles o d = do-step (goes-on (both pre body) (Plain 231) (be .busy) t o d)
 
-  pub sub-op : OneOf (201 ∷ 204 ∷ 210 ∷ 214 ∷ []) n → (n ≡ 201 → ⊥) → (n ≡ 204 → ⊥) → (n ≡ 210 → ⊥) → Reckons Sub ≡ opOf n
-  sub-op (inl e) f g h = absurd (f e)
-  sub-op (inr (inl e)) f g h = absurd (g e)
-  sub-op (inr (inr (inl e))) f g h = absurd (h e)
-  sub-op (inr (inr (inr e))) f g h = rw e sub-is
+    pub do-faults : {w′ : List ℕ} {r′ : Registers} → p .ok ≡ false → Done fault w₂ q w′ r′ → Stepped pre body w r w′ r′
+    do-faults o d = do-step (goes-back (both pre body) (Plain 231) (be .busy) t o d)
 
-add-two : 2 ≡ arityOf (opOf 201)
-unfolding opOf opIn operators arityOf arithArity
-add-two = refl
+-- ---- several in a row
 
-sub-two : 2 ≡ arityOf (opOf 214)
-unfolding opOf opIn operators arityOf arithArity
-sub-two = refl
+-- none yet
+pub none-run : (code : Code) (n : ℕ) (s : State) → run (n - n) code s ≡ s
+unfolding run
+none-run code n s = let z : n - n ≡ 0 = omega arith in rw z
 
-mul-two : 2 ≡ arityOf (opOf 210)
-unfolding opOf opIn operators arityOf arithArity
-mul-two = refl
+-- so it is with the bytes of the running body
+pub ready-here : {code : Code} {b w : List ℕ} {r : Registers} (origin at place depth : ℕ) → Good w r → r .depth ≡ depth → 0 < depth → r .skipping ≡ false → r .steps < 4294967295 → b ≡ bytesOf code origin
+    → place ≡ running (contextsOf (slots w) depth) .origin → place ≡ origin → at ≡ running (contextsOf (slots w) depth) .at → Ready code b at w r
+ready-here origin at place depth g d h on few eb ep eo ea =
+    record { good = g; runs = rw d h; on = on; few = few; bytes = rw (d, ← ep, eo) eb; place = rw d ea }
 
-div-two : 2 ≡ arityOf (opOf 204)
-unfolding opOf opIn operators arityOf arithArity
-div-two = refl
+-- gone back
+pub undone : (m m′ m″ : List Slot) (depth d at start : ℕ) → m″ ≡ goesTo m′ depth start → d ≡ depth → at ≡ start → goesTo m′ d at ≡ m → m″ ≡ m
+undone m m′ m″ depth d at start p ed ea q = p ∙ (rw (ed, ea) at q)
 
-pub two-of : (k : ArithOp) (n : ℕ) → OneOf (201 ∷ 204 ∷ 210 ∷ 214 ∷ []) n → Reckons k ≡ opOf n → (2 ≡ arityOf (Reckons k)) × (2 ≤ 2)
-two-of k n (inl e) h = (rw (h, e) add-two, omega arith)
-two-of k n (inr (inl e)) h = (rw (h, e) div-two, omega arith)
-two-of k n (inr (inr (inl e))) h = (rw (h, e) mul-two, omega arith)
-two-of k n (inr (inr (inr e))) h = (rw (h, e) sub-two, omega arith)
+pub good-stepped : (w w′ : List ℕ) (r : Registers) (h : ℕ) → Good w r → length w′ ≡ length w → h ≤ 128 → Good w′ (stepped r h)
+good-stepped w w′ r h g long fits = record { room = omega (arith, g .room); stack-fits = fits; depth-fits = g .depth-fits; cells-fit = g .cells-fit; errors-fit = omega (arith, g .errors-fit) }
 
--- ---- operators that pop nothing before the engine's part
+module _ (code : Code) (w₀ w : List ℕ) (r₀ r : Registers) (most left : ℕ) (g : Good w r) (runs : 0 < r .depth) (on : r .skipping ≡ false)
+    (few : left ≤ most) (sum : r .steps + left ≡ r₀ .steps + most) (same : aside w ≡ aside w₀) (inv : run (most - left) code (abs w₀ r₀) ≡ abs w r) where
+  -- it ends here
+  pub sprint-stop : {w′ : List ℕ} → length w′ ≡ length w → slots w′ ≡ slots w → r .ok ≡ false → Sprinted code most w₀ r₀ w′ r
+  unfolding aside
+  sprint-stop {w′} long e o =
+      let z : r .steps - r₀ .steps ≡ most - left = omega arith in
+      record {
+        good = record { room = omega (arith, g .room); stack-fits = g .stack-fits; depth-fits = g .depth-fits; cells-fit = g .cells-fit; errors-fit = g .errors-fit };
+        runs = runs;
+        on = on;
+        keeps = rw e same;
+        since = omega arith;
+        within = omega arith;
+        some = λ h. not-on (sym o ∙ h);
+        counted = λ h. not-on (sym o ∙ h);
+        ends = λ h. not-on (sym o ∙ h);
+        does = λ h. rw (z, inv, e);
+      }
 
-dup-none : popped (Plain 181) ≡ 0
-unfolding popped opOf opIn operators arityOf stackArity
-dup-none = refl
+  -- one more, whether or not the body goes on
+  module _ {w′ : List ℕ} (at h : ℕ) (more : 0 < left) (fits : h ≤ 128) (t : Strode code at w r w′ h) where
+    one-more : run (most - (left - 1)) code (abs w₀ r₀) ≡ settle (abs w′ (stepped r h))
+    one-more =
+        let z : most - (left - 1) ≡ suc (most - left) = omega arith in
+        let alive : ended (run (most - left) code (abs w₀ r₀) .contexts) ≡ false = rw inv (not-ended (slots w) (r .depth) runs) in
+        rw (z, run-last code (most - left) (abs w₀ r₀) alive, inv) (sym (t .does fits))
 
-dup-effect : (x y : Value) → performed (Plain 181) x y ≡ Acts (Works (Repeat 1))
-unfolding performed opOf opIn operators effectOf stackEffect
-dup-effect x y = refl
+    pub sprint-on : (r′ : Registers) → r′ ≡ record { height = h; depth = r .depth; used = r .used; steps = r .steps + 1; errors = r .errors; skipping = false; ok = r .ok } → Done settle w′ (stepped r h) w′ r′
+        → run (most - (left - 1)) code (abs w₀ r₀) ≡ abs w′ (stepped r h)
+    sprint-on r′ e d = one-more ∙ (sym (d .does) ∙ (rw (e, on)))
 
-count-none : popped (Plain 188) ≡ 0
-unfolding popped opOf opIn operators arityOf stackArity
-count-none = refl
+    pub sprint-ends : length w′ ≡ length w → Sprinted code most w₀ r₀ w′ (record { height = h; depth = r .depth; used = r .used; steps = r .steps + 1; errors = r .errors; skipping = r .skipping; ok = true })
+    sprint-ends long =
+        let z : r .steps + 1 - r₀ .steps ≡ most - (left - 1) = omega arith in
+        record {
+          good = record { room = omega (arith, g .room); stack-fits = fits; depth-fits = g .depth-fits; cells-fit = g .cells-fit; errors-fit = omega (arith, g .errors-fit) };
+          runs = runs;
+          on = on;
+          keeps = t .keeps fits ∙ same;
+          since = omega arith;
+          within = omega arith;
+          some = λ k. omega arith;
+          counted = λ k. omega (arith, g .errors-fit);
+          ends = λ k. rw z one-more;
+          does = λ k. not-on (sym k);
+        }
 
-count-effect : (x y : Value) → performed (Plain 188) x y ≡ Acts Tally
-unfolding performed opOf opIn operators effectOf stackEffect
-count-effect x y = refl
+-- ---- a run, some steps at a time
 
-unmark0-none : popped (Plain 192) ≡ 0
-unfolding popped opOf opIn operators arityOf stackArity
-unmark0-none = refl
+module _ {code : Code} {w w₁ : List ℕ} {r q : Registers} (most : ℕ) (t : Sprinted code most w r w₁ q) where
+  pub onward-ends : {w′ : List ℕ} {r′ : Registers} → q .ok ≡ true → Done settle w₁ q w′ r′ → Onward code most w r w′ r′
+  onward-ends {w′} {r′} o d =
+      record { good = d .good; does = d .does ∙ (rw (d .counted) (sym (t .ends o))); keeps = d .keeps ∙ t .keeps; some = omega (arith, d .counted, t .some o); within = omega (arith, d .counted, t .within) }
 
-unmark0-effect : (x y : Value) → performed (Plain 192) x y ≡ Acts (Remove 0)
-unfolding performed opOf opIn operators effectOf stackEffect
-unmark0-effect x y = refl
+  module _ (o : q .ok ≡ false) where
+    pub onward-all : 0 < most → r .steps + most ≤ q .steps → Onward code most w r w₁ q
+    onward-all h k = record { good = t .good; does = sym (t .does o); keeps = t .keeps; some = omega arith; within = t .within }
 
-nop-none : popped (Plain 1) ≡ 0
-unfolding popped opOf opIn operators arityOf stackArity
-nop-none = refl
+    pub onward-step : {w′ : List ℕ} {r′ : Registers} → q .steps < r .steps + most → abs w′ r′ ≡ step code (abs w₁ q) → Good w′ r′ → aside w′ ≡ aside w₁ → r′ .steps ≡ q .steps + 1 → Onward code most w r w′ r′
+    onward-step {w′} {r′} k e g same n =
+        let z : r′ .steps - r .steps ≡ suc (q .steps - r .steps) = omega (arith, n, t .since) in
+        let alive : ended (run (q .steps - r .steps) code (abs w r) .contexts) ≡ false = rw (t .does o) (not-ended (slots w₁) (q .depth) (t .runs)) in
+        record { good = g; does = e ∙ (rw (z, run-last code (q .steps - r .steps) (abs w r) alive, t .does o)); keeps = same ∙ t .keeps; some = omega (arith, n, t .since); within = omega (arith, n) }
 
-nop-effect : (x y : Value) → performed (Plain 1) x y ≡ Acts (Works Nothing)
-unfolding performed opOf opIn operators effectOf stackEffect
-nop-effect x y = refl
+-- a step after others
+module _ (pre body w₀ w : List ℕ) (r₀ r : Registers) (most left : ℕ) (runs : 0 < r .depth) (few : left ≤ most) (sum : r .steps + left ≡ r₀ .steps + most) (same : aside w ≡ aside w₀)
+    (inv : run (most - left) (both pre body) (abs w₀ r₀) ≡ abs w r) where
+  module _ {w′ : List ℕ} {r′ : Registers} (h : 0 < left) (d : Stepped pre body w r w′ r′) where
+    alive : ended (run (most - left) (both pre body) (abs w₀ r₀) .contexts) ≡ false
+    alive = rw inv (not-ended (slots w) (r .depth) runs)
 
-module _ {w w′ : List ℕ} {r r′ : Registers} (code : Code) where
-  at-once : (n : ℕ) (e : Effect) → popped (Plain n) ≡ 0 → ((x y : Value) → performed (Plain n) x y ≡ e) → Tried (affected code e) w r w′ r′ → Tried (execute code (Plain n)) w r w′ r′
-  unfolding execute provided pops effectAt
-  at-once n e z i t =
-      let vs = above (stackOf (slots w) (r .height)) in
-      tried-as (rw (z, i (getD vs 0 state.zero) (getD vs 1 state.zero), le-leb 0 (length vs) (omega arith), over-above (stackOf (slots w) (r .height)))) t
+    pub after-step : Onward (both pre body) most w₀ r₀ w′ r′
+    after-step =
+        let z : r′ .steps - r₀ .steps ≡ suc (most - left) = omega (arith, d .counted) in
+        record {
+          good = d .good;
+          does = d .does ∙ (rw (z, run-last (both pre body) (most - left) (abs w₀ r₀) alive, inv));
+          keeps = d .keeps ∙ same;
+          some = omega (arith, d .counted);
+          within = omega (arith, d .counted);
+        }
 
-  repeats : Tried (repeat 1) w r w′ r′ → Tried (affected code (Acts (Works (Repeat 1)))) w r w′ r′
-  unfolding affected does worked
-  repeats t = t
+    pub after-inv : run (most - (left - 1)) (both pre body) (abs w₀ r₀) ≡ abs w′ r′
+    after-inv =
+        let z : most - (left - 1) ≡ suc (most - left) = omega arith in
+        rw (z, run-last (both pre body) (most - left) (abs w₀ r₀) alive, inv) (sym (d .does))
 
-  tallies : Tried tally w r w′ r′ → Tried (affected code (Acts Tally)) w r w′ r′
-  unfolding affected does
-  tallies t = t
+  pub after-all : Good w r → 0 < most → left ≤ 0 → Onward (both pre body) most w₀ r₀ w r
+  after-all g h l =
+      let z : r .steps - r₀ .steps ≡ most - left = omega arith in
+      record { good = g; does = rw z (sym inv); keeps = same; some = omega arith; within = omega arith }
 
-  removes : Tried (remove 0) w r w′ r′ → Tried (affected code (Acts (Remove 0))) w r w′ r′
-  unfolding affected does
-  removes t = t
-
-  rests : Tried (worked code Nothing) w r w′ r′ → Tried (affected code (Acts (Works Nothing))) w r w′ r′
-  unfolding affected does
-  rests t = t
-
-  module _ (n : ℕ) where
-    pub is-dup : n ≡ 181 → Tried (repeat 1) w r w′ r′ → Tried (execute code (Plain n)) w r w′ r′
-    is-dup e t = rw e (at-once 181 (Acts (Works (Repeat 1))) dup-none dup-effect (repeats t))
-
-    pub is-count : n ≡ 188 → Tried tally w r w′ r′ → Tried (execute code (Plain n)) w r w′ r′
-    is-count e t = rw e (at-once 188 (Acts Tally) count-none count-effect (tallies t))
-
-    pub is-unmark0 : n ≡ 192 → Tried (remove 0) w r w′ r′ → Tried (execute code (Plain n)) w r w′ r′
-    is-unmark0 e t = rw e (at-once 192 (Acts (Remove 0)) unmark0-none unmark0-effect (removes t))
-
-    pub is-nop : n ≡ 1 → Tried (worked code Nothing) w r w′ r′ → Tried (execute code (Plain n)) w r w′ r′
-    is-nop e t = rw e (at-once 1 (Acts (Works Nothing)) nop-none nop-effect (rests t))
-
-    pub is-number : (m : ℕ) → n ≡ m → Tried (execute code (Plain m)) w r w′ r′ → Tried (execute code (Plain n)) w r w′ r′
-    is-number m e t = rw e t
-
--- ---- operators by their family
-
-module _ (e : Effect) (x y : Value) where
-  pub by-frame : (k : FrameOp) → e ≡ frameEffect k x → e ≡ effectOf (OnFrame k) x y
-  unfolding effectOf
-  by-frame k i = i
-
-  pub by-call : (k : CallOp) → e ≡ callEffect k x → e ≡ effectOf (Calls k) x y
-  unfolding effectOf
-  by-call k i = i
-
-  pub by-test : (k : TestOp) → e ≡ testEffect k x y → e ≡ effectOf (Tests k) x y
-  unfolding effectOf
-  by-test k i = i
-
-  pub by-arith : (k : ArithOp) → e ≡ arithEffect k x y → e ≡ effectOf (Reckons k) x y
-  unfolding effectOf
-  by-arith k i = i
-
-pop-effect : (x y : Value) → Acts (Works Nothing) ≡ effectOf (OnStack Pop) x y
-unfolding effectOf stackEffect
-pop-effect x y = refl
-
-pub pop-done : {w : List ℕ} {r q r′ : Registers} (code : Code) (t : Tops) → Busy w r → Topmost (above (stackOf (slots w) (r .height))) t → 1 ≤ t .count → q ≡ trying r (r .height - 1) (r .depth) (r .used) (r .ok)
-    → r′ ≡ trying q (q .height) (q .depth) (q .used) true → Tried (execute code (Plain 180)) w r w r′
-pop-done code t g et h eq er =
-    plain-done code 180 1 (OnStack Pop) t g pop-op pop-one et (valueIn (t .first)) (valueIn (t .second)) (Acts (Works Nothing)) h refl refl (pop-effect (valueIn (t .first)) (valueIn (t .second))) eq
-    (rests code (nothing-done code (busy-lower 1 g eq) er))
-
-pub reckon-few : {w : List ℕ} {r r′ : Registers} (code : Code) (n : ℕ) → Busy w r → OneOf (201 ∷ 204 ∷ 210 ∷ 214 ∷ []) n → (t : Tops) → Topmost (above (stackOf (slots w) (r .height))) t → t .count < 2 → r′ ≡ failed r
-    → Tried (execute code (Plain n)) w r w r′
-reckon-few code n g (inl e) t et h q = rw e (plain-few code 201 2 (Reckons Add) t g add-is (two-of Add 201 (inl refl) add-is) et h q)
-reckon-few code n g (inr (inl e)) t et h q = rw e (plain-few code 204 2 (Reckons Div) t g div-is (two-of Div 204 (inr (inl refl)) div-is) et h q)
-reckon-few code n g (inr (inr (inl e))) t et h q = rw e (plain-few code 210 2 (Reckons Mul) t g mul-is (two-of Mul 210 (inr (inr (inl refl))) mul-is) et h q)
-reckon-few code n g (inr (inr (inr e))) t et h q = rw e (plain-few code 214 2 (Reckons Sub) t g sub-is (two-of Sub 214 (inr (inr (inr refl))) sub-is) et h q)
-
--- no other number is met
-pub none-else : {X : Type 0} (n : ℕ) → OneOf swift n → (n ≡ 1 → ⊥) → (n ≡ 20 → ⊥) → (n ≡ 21 → ⊥) → (n ≡ 180 → ⊥) → (n ≡ 181 → ⊥) → (n ≡ 188 → ⊥) → (n ≡ 192 → ⊥) → (n ≡ 208 → ⊥) → (n ≡ 231 → ⊥)
-    → (OneOf (201 ∷ 204 ∷ 210 ∷ 214 ∷ []) n → ⊥) → X
-none-else n (inl e) a b c d f g h i j k = absurd (a e)
-none-else n (inr (inl e)) a b c d f g h i j k = absurd (b e)
-none-else n (inr (inr (inl e))) a b c d f g h i j k = absurd (c e)
-none-else n (inr (inr (inr (inl e)))) a b c d f g h i j k = absurd (d e)
-none-else n (inr (inr (inr (inr (inl e))))) a b c d f g h i j k = absurd (f e)
-none-else n (inr (inr (inr (inr (inr (inl e)))))) a b c d f g h i j k = absurd (g e)
-none-else n (inr (inr (inr (inr (inr (inr (inl e))))))) a b c d f g h i j k = absurd (h e)
-none-else n (inr (inr (inr (inr (inr (inr (inr (inl e)))))))) a b c d f g h i j k = absurd (i e)
-none-else n (inr (inr (inr (inr (inr (inr (inr (inr (inl e))))))))) a b c d f g h i j k = absurd (j e)
-none-else n (inr (inr (inr (inr (inr (inr (inr (inr (inr e))))))))) a b c d f g h i j k = absurd (k e)
-
--- ---- a literal, by its kind
-
-module _ {f : State → Option State} {w w′ : List ℕ} {r r′ : Registers} (x : Literal) (s : Swift x) where
-  pub no-name : (start len : ℕ) → x ≡ Name start len → Tried f w r w′ r′
-  no-name start len e = let z : Swift (Name start len) = rw e at s in absurd z
-
-  pub no-text : (start : ℕ) → x ≡ Text start → Tried f w r w′ r′
-  no-text start e = let z : Swift (Text start) = rw e at s in absurd z
-
-  pub no-holder : (n start len : ℕ) → x ≡ WithBody n start len → Tried f w r w′ r′
-  no-holder n start len e = let z : Swift (WithBody n start len) = rw e at s in absurd z
-
-pub swift-plain : (x : Literal) (n : ℕ) → Swift x → x ≡ Plain n → OneOf swift n
-swift-plain x n s e = rw e at s
+pub run-onward : {R : State} {code : Code} {w w′ : List ℕ} {r r′ : Registers} (n : ℕ) → run n code (abs w r) ≡ R → Onward code n w r w′ r′ → run (n - (r′ .steps - r .steps)) code (abs w′ r′) ≡ R
+run-onward {R} {code} {w} {w′} {r} {r′} n inv d =
+    let k = r′ .steps - r .steps in
+    let z : n ≡ k + (n - k) = omega (arith, d .within) in
+    rw (d .does) (sym (run-both code k (n - k) (abs w r))) ∙ (rw z at inv)

@@ -1,6 +1,6 @@
 -- A step and a run of the bodies pre and body, two slices of a master that is not too long, on the table. While the preamble runs there is
 -- no page, and its slice is empty: no bytes are read there either way. Assumes nothing.
-use Prim.Native.Nat.{ℕ, _+_, _-_, _≤_, _<_}
+use Prim.Native.Nat.{ℕ, _+_, _≤_, _<_}
 use mathlib.Core.Path.{_≡_}
 use mathlib.Core.List.{List}
 use lib.ListN.{length}
@@ -43,11 +43,3 @@ pub record Ran (pre body : List ℕ) (allowance : ℕ) (w : List ℕ) (r : Regis
   pub does : abs w′ r′ ≡ run allowance (both pre body) (abs w r)
   pub keeps : aside w′ ≡ aside w
   pub counted : r′ .steps ≤ r .steps + allowance
-
--- some steps, at most so many, as many as are counted
-pub record Forth (pre body : List ℕ) (most : ℕ) (w : List ℕ) (r : Registers) (w′ : List ℕ) (r′ : Registers) : Type 0 where
-  pub good : Good w′ r′
-  pub does : abs w′ r′ ≡ run (r′ .steps - r .steps) (both pre body) (abs w r)
-  pub keeps : aside w′ ≡ aside w
-  pub some : r .steps < r′ .steps
-  pub within : r′ .steps ≤ r .steps + most

@@ -3,10 +3,3 @@ pub mod origins; // the bytes that a context and a value point into
 pub mod steps; // a literal, a step, a body under an allowance
 mod swift; // the literals that masters are mostly made of
 pub mod works; // the engine's part of an operator
-
-// A literal told by its first two bytes and of those that `swift` has a way for (`known`), and where the next one stands.
-pub struct Brief {
-    pub known: bool,
-    pub literal: machine::Literal,
-    pub next: usize,
-}

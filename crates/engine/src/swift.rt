@@ -1,247 +1,87 @@
-// The literals that masters are mostly made of, each on a way of its own. What an operator makes of its values is said in `operators`
-// alone; but where the operator is fixed, the compiler sees which effects it can have, and makes none of them.
+// The literals that masters are mostly made of: numbers of two bytes, and operators that leave cells and contexts as they are. Several in
+// a row are executed here, the height of the stack in hand. Nothing here fails: what is not done here is left undone, for `steps`.
 ghost use mathlib.Core.Path.{_≡_};
 ghost use mathlib.Core.Bool.{true, false};
-ghost use Prim.Native.Nat.{_≤_};
+ghost use Prim.Native.Nat.{ℕ, _+_, _<_, _≤_};
 ghost use lib.ListN.{length};
-ghost use lib.IntN.{pos, _-ℤ_};
 ghost use types.Run.{OneOf};
 ghost use mathlib.Core.List.{[], _∷_};
-ghost use Rattle.tokens.specs.Format.{bias};
 ghost use Rattle.machine.specs.declared.Literal.the-variants.{Plain};
-ghost use Rattle.machine.specs.declared.Op.the-variants.{Reckons};
+ghost use Rattle.machine.specs.declared.Role.the-variants as role;
+ghost use Rattle.machine.specs.declared.Op.the-variants.{OnFrame, Reckons};
 ghost use Rattle.machine.specs.Skeleton.{roleOf};
-ghost use Rattle.machine.specs.Operators.{opOf};
-ghost use Rattle.machine.specs.Literal.{Code, operatorBy, foundAt};
-ghost use Rattle.machine.specs.Engine.{affected};
+ghost use Rattle.machine.specs.Operators.{opOf, arityOf};
+ghost use Rattle.machine.specs.Literal.{Code, bytesOf};
 ghost use Rattle.machine.specs.Step.{execute};
-ghost use Rattle.operators.specs.Sizes.{Sized};
-ghost use Rattle.state.specs.Layout.{Busy, Tried};
+ghost use Rattle.state.specs.Layout.{Good, Busy};
 ghost use Rattle.literals.specs.Names.{both};
 ghost use Rattle.engine.specs.Bodies.{Short};
-ghost use Rattle.engine.specs.Swift.{swift, Swift, Briefly};
-use crate::Brief;
-use crate::works;
+ghost use Rattle.engine.specs.Swift.{flatWork, flatNext, flat, marked, Flat, Ready, Strode, Sprinted};
 use machine::ArithOp;
 use machine::Effect;
+use machine::FrameOp;
 use machine::Literal;
 use machine::Next;
 use machine::Work;
 use state::Registers;
 use tokens::Form;
 
-// ---- which literal is due
+// More than the stack can hold: nothing was done.
+const UNDONE: usize = 129;
 
-fn is_swift(n: u16) -> bool
-    ensures { λ b. ⌜ (b ≡ true → OneOf swift n) ⌝ }
+// The height after an operation.
+fn height_of(p: Registers) -> usize
+    ensures { λ h. ⌜ (p .ok ≡ true → h ≡ p .height) × (p .ok ≡ false → h ≡ 129) ⌝ }
 {
-    match n {
-        1 => true,
-        20 => true,
-        21 => true,
-        180 => true,
-        181 => true,
-        188 => true,
-        192 => true,
-        208 => true,
-        231 => true,
-        201 => true,
-        204 => true,
-        210 => true,
-        214 => true,
-        _ => false,
+    if p.ok {
+        return p.height;
     }
+    UNDONE
 }
 
-// Another literal, or none.
-pub fn other() -> Brief
-    ensures { λ r. ⌜ (r .known ≡ false) × (r .next ≡ 0) ⌝ }
-{
-    Brief {
-        known: false,
-        literal: Literal::Plain { number: 0 },
-        next: 0,
-    }
-}
+// ---- the operators met most
 
-// The operator n, which ends at `next`.
-fn operator(b: &[u8], n: u16, next: usize) -> Brief
-    requires { ⌜ (length (now b) ≤ 16777215) × (next ≤ length (now b)) ⌝ }
-    ensures { λ r. ⌜ Briefly (operatorBy (roleOf n) (now (b .entry)) n next) r ⌝ }
-{
-    if is_swift(n) {
-        let past = skeleton::bodies::past_comments(b, next);
-        return Brief {
-            known: true,
-            literal: Literal::Plain { number: n },
-            next: past,
-        };
-    }
-    other()
-}
-
-// The number of a token of two bytes.
-fn short(raw: u16) -> numbers::Number
-    ensures { λ r. ⌜ r ≡ record { num = pos raw -ℤ pos bias; den = 1 } ⌝ }
-{
-    let num = tokens::reading::short_number(raw);
-    numbers::Number { num, den: 1 }
-}
-
-// The literal at `at`, if it is a swift one.
-pub fn brief(b: &[u8], at: usize) -> Brief
-    requires { ⌜ length (now b) ≤ 16777215 ⌝ }
-    ensures { λ r. ⌜ Briefly (foundAt (now (b .entry)) at) r ⌝ }
-{
-    match tokens::forms::form_at(b, at) {
-        Form::Number { raw, next } => {
-            let number = short(raw);
-            let past = skeleton::bodies::past_comments(b, next);
-            return Brief {
-                known: true,
-                literal: Literal::Figure(number),
-                next: past,
-            };
-        }
-        Form::Operator { number, next } => {
-            return operator(b, number, next);
-        }
-        Form::Sequence => {
-            return other();
-        }
-        Form::Cut => {
-            return other();
-        }
-    }
-}
-
-// ---- effects, the expected one first
-
-fn fetched(w: &mut [u8], r: Registers, pre: &[u8], body: &[u8], e: Effect) -> Registers
-    requires { ⌜ Busy (now w) r × Short (now pre) (now body) × Sized e ⌝ }
-    ensures { λ q. ⌜ Tried (affected (both (now (pre .entry)) (now (body .entry))) e) (now (w .entry)) r (now (w .exit)) q ⌝ }
-{
-    match e {
-        Effect::Fail => state::stack::failed(r),
-        Effect::Acts(x) => match x {
-            Next::Works(k) => match k {
-                Work::Fetch { j } => state::frames::fetch(w, r, table::words::size(j)),
-                _ => works::work(w, r, pre, body, k),
-            },
-            _ => works::act(w, r, pre, body, x),
-        },
-        _ => works::affect(w, r, pre, body, e),
-    }
-}
-
-fn stored(w: &mut [u8], r: Registers, pre: &[u8], body: &[u8], e: Effect) -> Registers
-    requires { ⌜ Busy (now w) r × Short (now pre) (now body) × Sized e ⌝ }
-    ensures { λ q. ⌜ Tried (affected (both (now (pre .entry)) (now (body .entry))) e) (now (w .entry)) r (now (w .exit)) q ⌝ }
-{
-    match e {
-        Effect::Fail => state::stack::failed(r),
-        Effect::Acts(x) => match x {
-            Next::Store { j } => state::frames::store(w, r, table::words::size(j)),
-            _ => works::act(w, r, pre, body, x),
-        },
-        _ => works::affect(w, r, pre, body, e),
-    }
-}
-
-fn called(w: &mut [u8], r: Registers, pre: &[u8], body: &[u8], e: Effect) -> Registers
-    requires { ⌜ Busy (now w) r × Short (now pre) (now body) × Sized e ⌝ }
-    ensures { λ q. ⌜ Tried (affected (both (now (pre .entry)) (now (body .entry))) e) (now (w .entry)) r (now (w .exit)) q ⌝ }
-{
-    match e {
-        Effect::Fail => state::stack::failed(r),
-        Effect::Acts(x) => match x {
-            Next::Call {
-                origin,
-                start,
-                len,
-                first,
-            } => works::call(w, r, pre, body, origin, start, len, first),
-            _ => works::act(w, r, pre, body, x),
-        },
-        _ => works::affect(w, r, pre, body, e),
-    }
-}
-
-fn given(w: &mut [u8], r: Registers, pre: &[u8], body: &[u8], e: Effect) -> Registers
-    requires { ⌜ Busy (now w) r × Short (now pre) (now body) × Sized e ⌝ }
-    ensures { λ q. ⌜ Tried (affected (both (now (pre .entry)) (now (body .entry))) e) (now (w .entry)) r (now (w .exit)) q ⌝ }
-{
-    match e {
-        Effect::Fail => state::stack::failed(r),
-        Effect::Gives(a) => state::stack::push_number(w, r, a),
-        _ => works::affect(w, r, pre, body, e),
-    }
-}
-
-// ---- the operators
-
-fn fget(w: &mut [u8], r: Registers, pre: &[u8], body: &[u8]) -> Registers
-    requires { ⌜ Busy (now w) r × Short (now pre) (now body) ⌝ }
-    ensures { λ q. ⌜ Tried (execute (both (now (pre .entry)) (now (body .entry))) (Plain 20)) (now (w .entry)) r (now (w .exit)) q ⌝ }
-{
-    let t = state::stack::tops(w, r.height);
-    if t.count < 1 {
-        return state::stack::failed(r);
-    }
-    let x = state::values::value_of(t.first);
-    let e = operators::frame::effect(machine::FrameOp::Fget, x);
-    let mut q = r;
-    q.height = r.height - 1;
-    fetched(w, q, pre, body, e)
-}
-
-fn fset(w: &mut [u8], r: Registers, pre: &[u8], body: &[u8]) -> Registers
-    requires { ⌜ Busy (now w) r × Short (now pre) (now body) ⌝ }
-    ensures { λ q. ⌜ Tried (execute (both (now (pre .entry)) (now (body .entry))) (Plain 21)) (now (w .entry)) r (now (w .exit)) q ⌝ }
-{
-    let t = state::stack::tops(w, r.height);
-    if t.count < 1 {
-        return state::stack::failed(r);
-    }
-    let x = state::values::value_of(t.first);
-    let e = operators::frame::effect(machine::FrameOp::Fset, x);
-    let mut q = r;
-    q.height = r.height - 1;
-    stored(w, q, pre, body, e)
-}
-
-fn pop(w: &[u8], r: Registers) -> Registers
+// FGET and FSET
+fn framed(w: &mut [u8], r: Registers, o: FrameOp) -> usize
     requires { ⌜ Busy (now w) r ⌝ }
-    ensures { λ q. ⌜ ((code : Code) → Tried (execute code (Plain 180)) (now (w .entry)) r (now (w .entry)) q) ⌝ }
+    ensures { λ h. ⌜ ((code : Code) (n : ℕ) → OnFrame o ≡ opOf n → Flat (execute code (Plain n)) (now (w .entry)) r (now (w .exit)) h) ⌝ }
 {
     let t = state::stack::tops(w, r.height);
     if t.count < 1 {
-        return state::stack::failed(r);
-    }
-    let mut q = r;
-    q.height = r.height - 1;
-    works::done(q)
-}
-
-fn run_operator(w: &mut [u8], r: Registers, pre: &[u8], body: &[u8]) -> Registers
-    requires { ⌜ Busy (now w) r × Short (now pre) (now body) ⌝ }
-    ensures { λ q. ⌜ Tried (execute (both (now (pre .entry)) (now (body .entry))) (Plain 231)) (now (w .entry)) r (now (w .exit)) q ⌝ }
-{
-    let t = state::stack::tops(w, r.height);
-    if t.count < 1 {
-        return state::stack::failed(r);
+        return UNDONE;
     }
     let x = state::values::value_of(t.first);
-    let e = operators::call::effect(machine::CallOp::Do, x);
+    let e = operators::frame::effect(o, x);
     let mut q = r;
     q.height = r.height - 1;
-    called(w, q, pre, body, e)
+    match e {
+        Effect::Acts(next) => match next {
+            Next::Works(k) => match k {
+                Work::Fetch { j } => height_of(state::frames::fetch(w, q, table::words::size(j))),
+                _ => UNDONE,
+            },
+            Next::Store { j } => height_of(state::frames::store(w, q, table::words::size(j))),
+            _ => UNDONE,
+        },
+        _ => UNDONE,
+    }
+}
+
+fn pop(w: &[u8], r: Registers) -> usize
+    requires { ⌜ Busy (now w) r ⌝ }
+    ensures { λ h. ⌜ ((code : Code) → Flat (execute code (Plain 180)) (now (w .entry)) r (now (w .entry)) h) ⌝ }
+{
+    let t = state::stack::tops(w, r.height);
+    if t.count < 1 {
+        return UNDONE;
+    }
+    r.height - 1
 }
 
 // ADD, DIV, MUL and SUB
 fn two_numbers(n: u16) -> ArithOp
     requires { ⌜ OneOf (201 ∷ 204 ∷ 210 ∷ 214 ∷ []) n ⌝ }
-    ensures { λ r. ⌜ Reckons r ≡ opOf n ⌝ }
+    ensures { λ r. ⌜ (Reckons r ≡ opOf n) × (2 ≡ arityOf (Reckons r)) ⌝ }
 {
     match n {
         201 => ArithOp::Add,
@@ -251,72 +91,224 @@ fn two_numbers(n: u16) -> ArithOp
     }
 }
 
-fn reckon(w: &mut [u8], r: Registers, pre: &[u8], body: &[u8], n: u16) -> Registers
-    requires { ⌜ Busy (now w) r × Short (now pre) (now body) × OneOf (201 ∷ 204 ∷ 210 ∷ 214 ∷ []) n ⌝ }
-    ensures { λ q. ⌜ Tried (execute (both (now (pre .entry)) (now (body .entry))) (Plain n)) (now (w .entry)) r (now (w .exit)) q ⌝ }
+fn reckon(w: &mut [u8], r: Registers, o: ArithOp) -> usize
+    requires { ⌜ Busy (now w) r × (2 ≡ arityOf (Reckons o)) ⌝ }
+    ensures { λ h. ⌜ ((code : Code) (n : ℕ) → Reckons o ≡ opOf n → Flat (execute code (Plain n)) (now (w .entry)) r (now (w .exit)) h) ⌝ }
 {
     let t = state::stack::tops(w, r.height);
     if t.count < 2 {
-        return state::stack::failed(r);
+        return UNDONE;
     }
     let x = state::values::value_of(t.first);
     let y = state::values::value_of(t.second);
-    let e = operators::arith::effect(two_numbers(n), x, y);
+    let e = operators::arith::effect(o, x, y);
     let mut q = r;
     q.height = r.height - 2;
-    given(w, q, pre, body, e)
-}
-
-fn greater(w: &mut [u8], r: Registers, pre: &[u8], body: &[u8]) -> Registers
-    requires { ⌜ Busy (now w) r × Short (now pre) (now body) ⌝ }
-    ensures { λ q. ⌜ Tried (execute (both (now (pre .entry)) (now (body .entry))) (Plain 208)) (now (w .entry)) r (now (w .exit)) q ⌝ }
-{
-    let t = state::stack::tops(w, r.height);
-    if t.count < 2 {
-        return state::stack::failed(r);
-    }
-    let x = state::values::value_of(t.first);
-    let y = state::values::value_of(t.second);
-    let e = operators::test::effect(machine::TestOp::Gt, x, y);
-    let mut q = r;
-    q.height = r.height - 2;
-    given(w, q, pre, body, e)
-}
-
-// A swift operator; there is no other number.
-fn operate(w: &mut [u8], r: Registers, pre: &[u8], body: &[u8], n: u16) -> Registers
-    requires { ⌜ Busy (now w) r × Short (now pre) (now body) × OneOf swift n ⌝ }
-    ensures { λ q. ⌜ Tried (execute (both (now (pre .entry)) (now (body .entry))) (Plain n)) (now (w .entry)) r (now (w .exit)) q ⌝ }
-{
-    match n {
-        1 => works::done(r),
-        20 => fget(w, r, pre, body),
-        21 => fset(w, r, pre, body),
-        180 => pop(w, r),
-        181 => state::stack::repeat(w, r, 1),
-        188 => state::marks::tally(w, r),
-        192 => state::marks::remove(w, r, 0),
-        208 => greater(w, r, pre, body),
-        231 => run_operator(w, r, pre, body),
-        201 | 204 | 210 | 214 => reckon(w, r, pre, body, n),
-        _ => state::stack::failed(r),
+    match e {
+        Effect::Gives(a) => height_of(state::stack::push_number(w, q, a)),
+        _ => UNDONE,
     }
 }
 
-// A swift literal executed.
-pub fn execute(w: &mut [u8], r: Registers, pre: &[u8], body: &[u8], x: Literal) -> Registers
-    requires { ⌜ Busy (now w) r × Short (now pre) (now body) × Swift x ⌝ }
-    ensures { λ q. ⌜ Tried (execute (both (now (pre .entry)) (now (body .entry))) x) (now (w .entry)) r (now (w .exit)) q ⌝ }
+// ---- the others
+
+fn is_flat_work(x: Work) -> bool
+    ensures { λ b. ⌜ b ≡ flatWork x ⌝ }
 {
     match x {
-        Literal::Figure(a) => state::stack::push_number(w, r, a),
-        Literal::Plain { number } => operate(w, r, pre, body, number),
-        Literal::Name { start: _, len: _ } => state::stack::failed(r),
-        Literal::Text { start: _ } => state::stack::failed(r),
-        Literal::WithBody {
-            number: _,
+        Work::Nothing => true,
+        Work::Fetch { j: _ } => true,
+        Work::Element { cell: _ } => true,
+        Work::Build { lower: _, count: _ } => false,
+        Work::Spell { start: _ } => false,
+        Work::Utter { start: _, len: _ } => true,
+        Work::Compose { start: _, len: _ } => false,
+        Work::Repeat { count: _ } => true,
+        Work::Turn { depth: _, first: _ } => true,
+        Work::Match(_, _) => true,
+        Work::Report(_) => true,
+    }
+}
+
+fn is_flat_next(x: Next) -> bool
+    ensures { λ b. ⌜ b ≡ flatNext x ⌝ }
+{
+    match x {
+        Next::Works(k) => is_flat_work(k),
+        Next::Inline {
             start: _,
             len: _,
-        } => state::stack::failed(r),
+            owes: _,
+        } => false,
+        Next::Call {
+            origin: _,
+            start: _,
+            len: _,
+            first: _,
+        } => false,
+        Next::Store { j: _ } => true,
+        Next::Place { count: _ } => false,
+        Next::Remove { count: _ } => true,
+        Next::Tally => true,
     }
+}
+
+fn is_flat(e: Effect) -> bool
+    ensures { λ b. ⌜ b ≡ flat e ⌝ }
+{
+    match e {
+        Effect::Fail => false,
+        Effect::Gives(_) => true,
+        Effect::Gives2(_, _) => true,
+        Effect::Acts(x) => is_flat_next(x),
+    }
+}
+
+// Operators that are never done here: those with a body, MARK, DO, DOSAVE, DOSAVEALL, MAKEVECLU, MAKEVEC.
+fn is_other(n: u16) -> bool {
+    match n {
+        110 | 114 | 120 | 186 | 231 | 232 | 233 | 239 | 240 | 241 | 282 | 283 => true,
+        _ => false,
+    }
+}
+
+// Any operator.
+fn seldom<'a>(w: &mut [u8], r: Registers, pre: &'a [u8], body: &'a [u8], n: u16) -> usize
+    requires { ⌜ Busy (now w) r × Short (now pre) (now body) ⌝ }
+    ensures { λ h. ⌜ Flat (execute (both (now (pre .entry)) (now (body .entry))) (Plain n)) (now (w .entry)) r (now (w .exit)) h × (h ≤ 128 → roleOf n ≡ role.Plain) ⌝ }
+{
+    if is_other(n) {
+        return UNDONE;
+    }
+    let o = operators::numbering::op_of(n);
+    let a = operators::arity_of(o);
+    let t = state::stack::tops(w, r.height);
+    if a > t.count {
+        return UNDONE;
+    }
+    let x = state::values::value_of(t.first);
+    let y = state::values::value_of(t.second);
+    let e = operators::effect_of(o, x, y);
+    if is_flat(e) {
+        let mut q = r;
+        q.height = r.height - a;
+        return height_of(crate::works::affect(w, q, pre, body, e));
+    }
+    UNDONE
+}
+
+// No mark stands at the height `clear` or above.
+fn operate<'a>(
+    w: &mut [u8],
+    r: Registers,
+    pre: &'a [u8],
+    body: &'a [u8],
+    n: u16,
+    clear: usize,
+) -> usize
+    requires { ⌜ Busy (now w) r × Short (now pre) (now body) × (marked (now w) (r .height) ≤ clear) ⌝ }
+    ensures { λ h. ⌜ Flat (execute (both (now (pre .entry)) (now (body .entry))) (Plain n)) (now (w .entry)) r (now (w .exit)) h × (h ≤ 128 → roleOf n ≡ role.Plain) ⌝ }
+{
+    match n {
+        1 => r.height,
+        20 => framed(w, r, FrameOp::Fget),
+        21 => framed(w, r, FrameOp::Fset),
+        180 => pop(w, r),
+        181 => height_of(state::stack::repeat(w, r, 1)),
+        188 => height_of(state::marks::tally(w, r, clear)),
+        201 | 204 | 210 | 214 => reckon(w, r, two_numbers(n)),
+        _ => seldom(w, r, pre, body, n),
+    }
+}
+
+// ---- several in a row
+
+// A number or a name.
+fn sequence(w: &mut [u8], r: Registers, b: &[u8], at: usize) -> usize
+    requires { ⌜ (length (now b) ≤ 16777215) × Good (now w) r × (0 < r .depth) × (r .steps < 4294967295) ⌝ }
+    ensures { λ h. ⌜ ((code : Code) → Ready code (now (b .entry)) at (now (w .entry)) r → Strode code at (now (w .entry)) r (now (w .exit)) h) ⌝ }
+{
+    let d = literals::reading::due(b, at);
+    let x = d.literal;
+    match x {
+        Literal::Figure(a) => {
+            let q = state::bodies::begin(w, r, table::words::word(d.next));
+            height_of(state::stack::push_number(w, q, a))
+        }
+        Literal::Name { start, len } => {
+            let q = state::bodies::begin(w, r, table::words::word(d.next));
+            height_of(state::stack::push_name(w, q, start, len))
+        }
+        _ => UNDONE,
+    }
+}
+
+// The literal at `at`. If it is left undone, the running context may have gone past it.
+fn literal<'a>(
+    w: &mut [u8],
+    r: Registers,
+    pre: &'a [u8],
+    body: &'a [u8],
+    b: &[u8],
+    at: usize,
+    clear: usize,
+) -> usize
+    requires { ⌜ Ready (both (now pre) (now body)) (now b) at (now w) r × Short (now pre) (now body) × (marked (now w) (r .height) ≤ clear) ⌝ }
+    ensures { λ h. ⌜ Strode (both (now (pre .entry)) (now (body .entry))) at (now (w .entry)) r (now (w .exit)) h ⌝ }
+{
+    match tokens::forms::form_at(b, at) {
+        Form::Number { raw, next } => {
+            let past = skeleton::bodies::past_comments(b, next);
+            let q = state::bodies::begin(w, r, table::words::word(past));
+            let a = tokens::reading::short_value(raw);
+            height_of(state::stack::push_number(w, q, a))
+        }
+        Form::Operator { number, next } => {
+            let past = skeleton::bodies::past_comments(b, next);
+            let q = state::bodies::begin(w, r, table::words::word(past));
+            operate(w, q, pre, body, number, clear)
+        }
+        Form::Sequence => sequence(w, r, b, at),
+        Form::Cut => UNDONE,
+    }
+}
+
+// Literals of the running body, whose bytes are b, as long as they can be executed here and the body goes on.
+pub fn sprint<'a>(
+    w: &mut [u8],
+    start: Registers,
+    pre: &'a [u8],
+    body: &'a [u8],
+    b: &[u8],
+    origin: u32,
+    most: usize,
+) -> Registers
+    requires { ⌜ Good (now w) start × (0 < start .depth) × (start .skipping ≡ false) × (start .steps + most ≤ 1000000) × Short (now pre) (now body) × (now b ≡ bytesOf (both (now pre) (now body)) origin) ⌝ }
+    ensures { λ q. ⌜ Sprinted (both (now (pre .entry)) (now (body .entry))) most (now (w .entry)) start (now (w .exit)) q ⌝ }
+{
+    let depth = start.depth;
+    let clear = start.height;
+    let mut r = start;
+    r.ok = false;
+    let mut left = most;
+    while left > 0 {
+        let c = state::bodies::running(w, depth);
+        if c.origin != origin {
+            return r;
+        }
+        let h = literal(w, r, pre, body, b, table::words::size(c.start), clear);
+        if h > 128 {
+            state::bodies::go_to(w, depth, c.start);
+            return r;
+        }
+        r.height = h;
+        r.steps += 1;
+        left -= 1;
+        if state::recovery::goes_on(w, r, depth) {
+            continue;
+        }
+        r.ok = true;
+        return r;
+    }
+    r
 }

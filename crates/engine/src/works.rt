@@ -1,10 +1,8 @@
 // The engine's part of an operator.
 ghost use mathlib.Core.Path.{_≡_};
-ghost use Prim.Native.Nat.{ℕ, _+_, _<_, _≤_};
+ghost use Prim.Native.Nat.{ℕ, _+_, _<_};
 ghost use mathlib.Core.Bool.{cond, true};
 ghost use mathlib.Core.List.{List};
-ghost use lib.ListN.{length};
-ghost use Rattle.table.specs.Slots.{slots};
 ghost use Rattle.tokens.specs.Text.{lowered};
 ghost use Rattle.machine.specs.declared.Work.the-variants.{Match, Report};
 ghost use Rattle.machine.specs.State.{running};
@@ -12,7 +10,7 @@ ghost use Rattle.machine.specs.Literal.{Code, textOf};
 ghost use Rattle.machine.specs.Operand.{natural};
 ghost use Rattle.machine.specs.Engine.{spell, inline, call, worked, does, affected};
 ghost use Rattle.operators.specs.Sizes.{SizedWork, SizedNext, Sized};
-ghost use Rattle.state.specs.Layout.{contextsOf, Busy, Tried};
+ghost use Rattle.state.specs.Layout.{Busy, Tried};
 ghost use Rattle.literals.specs.Names.{both, dataAt};
 ghost use Rattle.engine.specs.Bodies.{Short};
 use machine::Effect;
@@ -22,20 +20,27 @@ use state::Place;
 use state::Registers;
 
 // The string token at `start` of the running body becomes a vector.
-pub fn spell(w: &mut [u8], r: Registers, pre: &[u8], body: &[u8], start: usize) -> Registers
+pub fn spell<'a>(
+    w: &mut [u8],
+    r: Registers,
+    pre: &'a [u8],
+    body: &'a [u8],
+    start: usize,
+) -> Registers
     requires { ⌜ Busy (now w) r ⌝ }
     ensures { λ q. ⌜ Tried (spell (both (now (pre .entry)) (now (body .entry))) start) (now (w .entry)) r (now (w .exit)) q ⌝ }
 {
     let c = state::bodies::running(w, r.depth);
-    crate::origins::spell_of(w, r, pre, body, c.origin, start)
+    let b = crate::origins::bytes_of(pre, body, c.origin);
+    state::letters::spell(w, r, b, start)
 }
 
 // A body of the running one entered with a copy of its frame.
-fn inline(
+fn inline<'a>(
     w: &mut [u8],
     r: Registers,
-    pre: &[u8],
-    body: &[u8],
+    pre: &'a [u8],
+    body: &'a [u8],
     start: u32,
     len: u32,
     owes: bool,
@@ -44,16 +49,17 @@ fn inline(
     ensures { λ q. ⌜ Tried (inline (both (now (pre .entry)) (now (body .entry))) start len owes) (now (w .entry)) r (now (w .exit)) q ⌝ }
 {
     let c = state::bodies::running(w, r.depth);
-    let at = crate::origins::solid_of(pre, body, c.origin, start);
-    state::bodies::inline(w, r, at, start + len, owes)
+    let b = crate::origins::bytes_of(pre, body, c.origin);
+    let at = skeleton::bodies::past_comments(b, table::words::size(start));
+    state::bodies::inline(w, r, table::words::word(at), start + len, owes)
 }
 
 // The body of an operator entered with the frame that it keeps.
-pub fn call(
+pub fn call<'a>(
     w: &mut [u8],
     r: Registers,
-    pre: &[u8],
-    body: &[u8],
+    pre: &'a [u8],
+    body: &'a [u8],
     origin: u32,
     start: u32,
     len: u32,
@@ -67,11 +73,19 @@ pub fn call(
         return state::stack::failed(r);
     }
     let end = table::words::size(start) + table::words::size(len);
-    if end > crate::origins::length_of(pre, body, origin) {
+    let b = crate::origins::bytes_of(pre, body, origin);
+    if end > b.len() {
         return state::stack::failed(r);
     }
-    let at = crate::origins::solid_of(pre, body, origin, start);
-    state::bodies::call(w, r, origin, at, table::words::word(end), f)
+    let at = skeleton::bodies::past_comments(b, table::words::size(start));
+    state::bodies::call(
+        w,
+        r,
+        origin,
+        table::words::word(at),
+        table::words::word(end),
+        f,
+    )
 }
 
 // Where a value's text stands: of an identifier its token, of other values nowhere.
@@ -118,11 +132,11 @@ fn figure(b: bool) -> numbers::Number
 }
 
 // EQ of two identifiers: 1 or 0 is pushed.
-fn matches(
+fn matches<'a>(
     w: &mut [u8],
     r: Registers,
-    pre: &[u8],
-    body: &[u8],
+    pre: &'a [u8],
+    body: &'a [u8],
     v: machine::Value,
     u: machine::Value,
 ) -> Registers
@@ -136,7 +150,7 @@ fn matches(
 }
 
 // Nothing more is done.
-pub fn done(r: Registers) -> Registers
+fn done(r: Registers) -> Registers
     ensures { λ q. ⌜ q ≡ record { height = r .height; depth = r .depth; used = r .used; steps = r .steps; errors = r .errors; skipping = r .skipping; ok = true } ⌝ }
 {
     let mut q = r;
@@ -182,7 +196,7 @@ fn report(w: &[u8], r: Registers, v: machine::Value) -> Registers
 }
 
 // What the engine does with the values above the topmost mark.
-pub fn work(w: &mut [u8], r: Registers, pre: &[u8], body: &[u8], x: Work) -> Registers
+fn work<'a>(w: &mut [u8], r: Registers, pre: &'a [u8], body: &'a [u8], x: Work) -> Registers
     requires { ⌜ Busy (now w) r × SizedWork x ⌝ }
     ensures { λ q. ⌜ Tried (worked (both (now (pre .entry)) (now (body .entry))) x) (now (w .entry)) r (now (w .exit)) q ⌝ }
 {
@@ -207,7 +221,7 @@ pub fn work(w: &mut [u8], r: Registers, pre: &[u8], body: &[u8], x: Work) -> Reg
 }
 
 // The engine's part of an operator.
-pub fn act(w: &mut [u8], r: Registers, pre: &[u8], body: &[u8], x: Next) -> Registers
+fn act<'a>(w: &mut [u8], r: Registers, pre: &'a [u8], body: &'a [u8], x: Next) -> Registers
     requires { ⌜ Busy (now w) r × Short (now pre) (now body) × SizedNext x ⌝ }
     ensures { λ q. ⌜ Tried (does (both (now (pre .entry)) (now (body .entry))) x) (now (w .entry)) r (now (w .exit)) q ⌝ }
 {
@@ -223,12 +237,12 @@ pub fn act(w: &mut [u8], r: Registers, pre: &[u8], body: &[u8], x: Next) -> Regi
         Next::Store { j } => state::frames::store(w, r, table::words::size(j)),
         Next::Place { count } => state::marks::place(w, r, table::words::size(count)),
         Next::Remove { count } => state::marks::remove(w, r, table::words::size(count)),
-        Next::Tally => state::marks::tally(w, r),
+        Next::Tally => state::marks::tally(w, r, r.height),
     }
 }
 
 // An effect, on the state from which the operator's values have been popped.
-pub fn affect(w: &mut [u8], r: Registers, pre: &[u8], body: &[u8], e: Effect) -> Registers
+pub fn affect<'a>(w: &mut [u8], r: Registers, pre: &'a [u8], body: &'a [u8], e: Effect) -> Registers
     requires { ⌜ Busy (now w) r × Short (now pre) (now body) × Sized e ⌝ }
     ensures { λ q. ⌜ Tried (affected (both (now (pre .entry)) (now (body .entry))) e) (now (w .entry)) r (now (w .exit)) q ⌝ }
 {

@@ -10,7 +10,7 @@ use native.Mathlib.Omega.{arith}
 use borrow.Author.Tests.{le-leb, lt-leb}
 use lib.Dec.{eqb}
 use lib.ListN.{length, getD, set, length-set}
-use lib.Seq.{getD-set-same}
+use lib.Seq.{getD-set-same, set-set, set-getD}
 use Rattle.table.specs.declared.Slot.{Slot}
 use Rattle.table.specs.Slots.{nil, mk, slots, desc, copied}
 use Rattle.table.proofs.Moves.{same-set, same-copied, same-then, Apart, length-copied}
@@ -19,7 +19,7 @@ use Rattle.machine.specs.Contexts.{atEnd, from, leaveAt, leave, settle}
 use Rattle.machine.specs.Engine.{fits, limited, withContexts, enter}
 use Rattle.machine.specs.Step.{begunIn, begun}
 use Rattle.state.specs.declared.Registers.{Registers}
-use Rattle.state.specs.Layout.{stackOf, valuesAt, frameAt, contextIn, contextAt, contextsOf, aside, abs, Good, Busy, Tried, Begun}
+use Rattle.state.specs.Layout.{stackOf, valuesAt, frameAt, contextIn, contextAt, contextsOf, aside, abs, Good, Busy, Tried, goesTo, Begun}
 use Rattle.state.specs.Operations.{entered, inline, call, contextPut, opening, Opened}
 use Rattle.state.proofs.Parts.{wide, room-of, stack-same, values-same, contexts-same, aside-same, length-stack, length-contexts, contexts-at}
 use Rattle.state.proofs.Ending.{state-path}
@@ -157,14 +157,18 @@ module _ (w w′ : List ℕ) (origin at end used : ℕ) (room : 48000 ≤ length
 
 -- ---- a step begins
 
-pub begin-done : {w w′ : List ℕ} {r r′ : Registers} (next : ℕ) (c : Slot) → Good w r → 0 < r .depth → r .steps < 4294967295 → c ≡ getD (slots w) (1752 + (r .depth - 1)) nil
-    → slots w′ ≡ set (slots w) (1752 + (r .depth - 1)) (mk (c .kind) (c .a) next (c .c) (c .d))
+pub goes-is : (m m′ : List Slot) (depth next : ℕ) (c : Slot) → c ≡ getD m (1752 + (depth - 1)) nil → m′ ≡ set m (1752 + (depth - 1)) (mk (c .kind) (c .a) next (c .c) (c .d)) → m′ ≡ goesTo m depth next
+unfolding goesTo
+goes-is m m′ depth next c e p = rw e at p
+
+pub begin-done : {w w′ : List ℕ} {r r′ : Registers} (next : ℕ) → Good w r → 0 < r .depth → r .steps < 4294967295 → slots w′ ≡ goesTo (slots w) (r .depth) next
     → r′ ≡ record { height = r .height; depth = r .depth; used = r .used; steps = r .steps + 1; errors = r .errors; skipping = r .skipping; ok = r .ok } → Begun next w r w′ r′
-unfolding begun begunIn contextAt contextIn
-begin-done {w} {w′} {r} {r′} next c g d0 sl e p q =
+unfolding begun begunIn contextAt contextIn goesTo
+begin-done {w} {w′} {r} {r′} next g d0 sl p q =
     let m = slots w in
     let d = r .depth in
     let k = 1752 + (d - 1) in
+    let c = getD m k nil in
     let v = mk (c .kind) (c .a) next (c .c) (c .d) in
     let m′ = set m k v in
     let room = wide w (g .room) in
@@ -174,9 +178,11 @@ begin-done {w} {w′} {r} {r′} next c g d0 sl e p q =
     contexts-renew m m′ d d0 (g .depth-fits) (same-set m k v 128 _ (inr (omega arith))) (same-set m k v 1752 _ (inr (omega arith))) ∙
     (rw (getD-set-same m k v nil (omega arith), values-same m′ m (frameAt (d - 1)) 50 (same-set m k v (frameAt (d - 1)) _ (inr (omega arith))))) in
     rw q (record {
+      moves = p;
+      registers = refl;
       busy = omega arith;
       does =
-          rw (contexts-at m d c d0 e, add-one (r .steps))
+          rw (contexts-at m d c d0 refl, add-one (r .steps))
           (state-path (rw p (stack-same m′ m (r .height) (same-set m k v 0 _ (inr (omega arith))))) (rw p cs)
           (rw p (values-same m′ m 128 50 (same-set m k v 128 _ (inr (omega arith)))))
           (rw p (values-same m′ m 728 (r .used) (same-set m k v 728 _ (inr (omega arith))))));
@@ -184,3 +190,15 @@ begin-done {w} {w′} {r} {r′} next c g d0 sl e p q =
       skips = refl;
       counted = refl;
     })
+
+-- and goes back
+pub goes-home : (m : List Slot) (depth next at : ℕ) → 1752 + (depth - 1) < length m → at ≡ getD m (1752 + (depth - 1)) nil .b → goesTo (goesTo m depth next) depth at ≡ m
+unfolding goesTo
+goes-home m depth next at h e =
+    let k = 1752 + (depth - 1) in
+    let c = getD m k nil in
+    rw (getD-set-same m k (mk (c .kind) (c .a) next (c .c) (c .d)) nil h, set-set, e) (set-getD m k nil)
+
+pub goes-nowhere : (m : List Slot) (depth at : ℕ) → at ≡ getD m (1752 + (depth - 1)) nil .b → goesTo m depth at ≡ m
+unfolding goesTo
+goes-nowhere m depth at e = rw e (set-getD m (1752 + (depth - 1)) nil)

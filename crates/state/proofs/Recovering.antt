@@ -1,18 +1,19 @@
 -- Mark recovery, one turn of its loops at a time. Assumes nothing.
 use mathlib.Core.Path.{_≡_, _∙_}
-use mathlib.Core.List.{List, _∷_}
+use mathlib.Core.List.{List, [], _∷_}
 use mathlib.Core.Option.{none}
-use Prim.Native.Nat.{ℕ, _+_, _-_, _≤_, _<_}
+use Prim.Native.Nat.{ℕ, zero, suc, _+_, _-_, _≤_, _<_}
 use native.Mathlib.Omega.{arith}
 use borrow.Author.Tests.{eq-eqb, ne-eqb, le-leb, lt-leb}
-use lib.ListN.{length, getD}
+use lib.ListN.{length, getD, drop}
 use Rattle.table.specs.declared.Slot.{Slot}
 use Rattle.table.specs.Slots.{nil, desc}
-use Rattle.machine.specs.State.{mark, Context}
-use Rattle.machine.specs.Contexts.{above, atEnd, from, Spot, landedAt, landed, recover}
+use Rattle.machine.specs.State.{Entry, val, mark, Context}
+use Rattle.machine.specs.Contexts.{above, beneath, atEnd, from, Spot, landedAt, landed, recover}
 use Rattle.machine.specs.Engine.{values, has}
 use Rattle.state.specs.Layout.{entryIn, stackOf, contextIn, contextsOf, spot}
-use Rattle.state.proofs.Parts.{stack-at, contexts-at}
+use Rattle.state.proofs.Parts.{length-stack, stack-at, contexts-at}
+use Rattle.state.proofs.Cutting.{stack-dropped}
 
 -- ---- the search of a context
 
@@ -72,6 +73,20 @@ module _ {R : Spot} (m : List Slot) (height depth : ℕ) (inv : recover (stackOf
         land-left t = rw (contexts-at m d c l has, le-leb (c .c) (c .b) t) at at-mark
 
 -- ---- the count of the values above the topmost mark
+
+-- k values taken off the top, no mark among them
+above-less : (s : List Entry) (k : ℕ) → k + length (beneath s) ≤ length s → k + length (above (drop k s)) ≡ length (above s)
+unfolding above beneath
+above-less s zero h = omega arith
+above-less [] (suc k) h = absurd (omega arith)
+above-less (val v ∷ s) (suc k) h = omega (arith, above-less s k (omega arith))
+above-less (mark j ∷ s) (suc k) h = absurd (omega arith)
+
+-- no mark stands at `clear` or above: what stands there is counted
+pub count-clear : (m : List Slot) (height clear : ℕ) → length (beneath (stackOf m height)) ≤ clear → clear < height → height - clear + length (above (stackOf m clear)) ≡ length (above (stackOf m height))
+count-clear m height clear h l =
+    let e : height - (height - clear) ≡ clear = omega arith in
+    rw (stack-dropped m (height - clear) height (omega arith), e) at (above-less (stackOf m height) (height - clear) (omega (arith, length-stack m height)))
 
 module _ {R : ℕ} (m : List Slot) (i n : ℕ) (inv : n + length (above (stackOf m i)) ≡ R) where
   pub count-end : i ≤ 0 → n ≡ R

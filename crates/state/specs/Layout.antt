@@ -6,13 +6,13 @@ use mathlib.Core.Path.{_≡_}
 use mathlib.Core.Bool.{Bool, true, false, cond}
 use mathlib.Core.List.{List, [], _∷_, map}
 use mathlib.Core.Option.{Option, none, some}
-use Prim.Native.Nat.{ℕ, zero, suc, _+_, _*_, _%_, _≤_, _<_}
+use Prim.Native.Nat.{ℕ, zero, suc, _+_, _-_, _*_, _%_, _≤_, _<_}
 use lib.Dec.{eqb}
-use lib.ListN.{length, getD, take}
+use lib.ListN.{length, getD, set, take}
 use mir.Syntax.{w32}
 use mir.Val.{toZ}
 use Rattle.table.specs.declared.Slot.{Slot}
-use Rattle.table.specs.Slots.{nil, slots, asc, desc}
+use Rattle.table.specs.Slots.{nil, mk, slots, asc, desc}
 use Rattle.machine.specs.declared.Value.{Value}
 use Rattle.machine.specs.declared.Value.the-variants.{Number, Identifier, Vector, Operator}
 use Rattle.machine.specs.Limits.{frameSize, mostEntries, mostContexts, mostCells, scratchSize}
@@ -120,8 +120,14 @@ pub record Tried (f : State → Option State) (w : List ℕ) (r : Registers) (w�
   pub keeps : aside w′ ≡ aside w
   pub counted : r′ .steps ≡ r .steps
 
+-- of the contexts at `depth` the running one goes on at `next`
+unfoldable pub goesTo : List Slot → ℕ → ℕ → List Slot
+goesTo m depth next = let v = getD m (1752 + (depth - 1)) nil in set m (1752 + (depth - 1)) (mk (v .kind) (v .a) next (v .c) (v .d))
+
 -- a step begun: the running context goes on at `next`
 pub record Begun (next : ℕ) (w : List ℕ) (r : Registers) (w′ : List ℕ) (r′ : Registers) : Type 0 where
+  pub moves : slots w′ ≡ goesTo (slots w) (r .depth) next
+  pub registers : r′ ≡ record { height = r .height; depth = r .depth; used = r .used; steps = r .steps + 1; errors = r .errors; skipping = r .skipping; ok = r .ok }
   pub busy : Busy w′ r′
   pub does : abs w′ r′ ≡ begun next (abs w r)
   pub keeps : aside w′ ≡ aside w

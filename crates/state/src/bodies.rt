@@ -5,22 +5,21 @@ ghost use lib.Dec.{eqb};
 ghost use lib.ListN.{length};
 ghost use Rattle.table.specs.Slots.{slots};
 ghost use Rattle.machine.specs.State.{running};
-ghost use Rattle.state.specs.Layout.{contextsOf, Good, Busy, Tried, Begun};
+ghost use Rattle.state.specs.Layout.{contextsOf, Good, Busy, Tried, goesTo, Begun};
 ghost use Rattle.state.specs.Operations.{inline, call, contextPut, Opened};
 use crate::Place;
 use crate::Registers;
 use table::Slot;
 
-// A step begins: it is counted, and the running context goes on at `next`.
-pub fn begin(w: &mut [u8], r: Registers, next: u32) -> Registers
-    requires { ⌜ Good (now w) r × (0 < r .depth) × (r .steps < 4294967295) ⌝ }
-    ensures { λ q. ⌜ Begun next (now (w .entry)) r (now (w .exit)) q ⌝ }
+// The context at `depth`, the running one, goes on at `next`.
+pub fn go_to(w: &mut [u8], depth: usize, next: u32)
+    requires { ⌜ (0 < depth) × (depth ≤ 12) × (48000 ≤ length (now w)) ⌝ }
+    ensures { λ _. ⌜ slots (now (w .exit)) ≡ goesTo (slots (now (w .entry))) depth next ⌝ }
 {
-    let d = r.depth;
-    let c = table::slots::get(w, 1752 + (d - 1));
+    let c = table::slots::get(w, 1752 + (depth - 1));
     table::slots::put(
         w,
-        1752 + (d - 1),
+        1752 + (depth - 1),
         Slot {
             kind: c.kind,
             a: c.a,
@@ -29,6 +28,14 @@ pub fn begin(w: &mut [u8], r: Registers, next: u32) -> Registers
             d: c.d,
         },
     );
+}
+
+// A step begins: it is counted, and the running context goes on at `next`.
+pub fn begin(w: &mut [u8], r: Registers, next: u32) -> Registers
+    requires { ⌜ Good (now w) r × (0 < r .depth) × (r .steps < 4294967295) ⌝ }
+    ensures { λ q. ⌜ Begun next (now (w .entry)) r (now (w .exit)) q ⌝ }
+{
+    go_to(w, r.depth, next);
     let mut q = r;
     q.steps = r.steps + 1;
     q

@@ -3,20 +3,24 @@ ghost use mathlib.Core.Path.{_≡_};
 ghost use Prim.Native.Nat.{_+_, _-_, _<_, _≤_};
 ghost use lib.ListN.{length};
 ghost use Rattle.table.specs.Slots.{slots};
-ghost use Rattle.machine.specs.Contexts.{above};
+ghost use Rattle.machine.specs.Contexts.{above, beneath};
 ghost use Rattle.machine.specs.Engine.{place, remove, tally};
 ghost use Rattle.state.specs.Layout.{stackOf, Busy, Tried};
 ghost use Rattle.state.specs.Operations.{markPut};
 use crate::Registers;
 use table::Slot;
 
-// How many values stand above the topmost mark.
-fn count(w: &[u8], height: usize) -> usize
-    requires { ⌜ (height ≤ 128) × (48000 ≤ length (now w)) ⌝ }
+// How many values stand above the topmost mark. No mark stands at the height `clear` or above.
+fn count(w: &[u8], height: usize, clear: usize) -> usize
+    requires { ⌜ (height ≤ 128) × (48000 ≤ length (now w)) × (length (beneath (stackOf (slots (now w)) height)) ≤ clear) ⌝ }
     ensures { λ r. ⌜ (r ≤ height) × (r ≡ length (above (stackOf (slots (now (w .entry))) height))) ⌝ }
 {
     let mut i = height;
     let mut n: usize = 0;
+    if clear < height {
+        i = clear;
+        n = height - clear;
+    }
     while i > 0 {
         let v = table::slots::get(w, i - 1);
         if v.kind == 5 {
@@ -99,13 +103,13 @@ pub fn remove(w: &mut [u8], r: Registers, n: usize) -> Registers
     crate::stack::failed(r)
 }
 
-// COUNT: how many values stand above the running context's own mark.
-pub fn tally(w: &mut [u8], r: Registers) -> Registers
-    requires { ⌜ Busy (now w) r ⌝ }
+// COUNT: how many values stand above the running context's own mark. No mark stands at the height `clear` or above.
+pub fn tally(w: &mut [u8], r: Registers, clear: usize) -> Registers
+    requires { ⌜ Busy (now w) r × (length (beneath (stackOf (slots (now w)) (r .height))) ≤ clear) ⌝ }
     ensures { λ q. ⌜ Tried tally (now (w .entry)) r (now (w .exit)) q ⌝ }
 {
     let height = r.height;
-    let k = count(w, height);
+    let k = count(w, height, clear);
     if k == height {
         return crate::stack::failed(r);
     }

@@ -1,14 +1,13 @@
 -- What the reader keeps of the data is enough to judge them. Assumes nothing.
 use mathlib.Core.Path.{_≡_, ap, _∙_}
-use mathlib.Core.Bool.{_&&_}
 use mathlib.Core.List.{List}
-use Prim.Native.Nat.{ℕ, _+_, _/_, _%_, _≤_}
+use Prim.Native.Nat.{ℕ, _+_, _/_, _≤_}
 use native.Mathlib.Omega.{arith}
-use lib.Dec.{eqb, leb}
+use lib.Dec.{eqb}
 use lib.IntN.{pos}
 use lib.ListN.{length, take}
 use lib.Seq.{take-all}
-use borrow.Author.Tests.{leb-true, eqb-true}
+use borrow.Author.Tests.{eqb-true}
 use Rattle.numbers.specs.Fraction.{ratioOf}
 use Rattle.tokens.specs.declared.Read.the-variants.{Unread}
 use Rattle.tokens.specs.declared.Refusal.the-variants.{CutOff, BadData}
@@ -19,9 +18,10 @@ use Rattle.tokens.specs.Text.{isName}
 use Rattle.tokens.specs.Joined.{Joined, whole, cutAt}
 use Rattle.tokens.specs.Token.{numberRead, integerSize, rationalSize, rationalIn, judged, sequence}
 use Rattle.tokens.specs.Inner.{ruleOf, roomOf, summaryOf, gatheredOf, rationalBy, judgedBy}
-use Rattle.numbers.proofs.Cond.{under, both, by-test}
+use Rattle.numbers.proofs.Cond.{under, by-test}
 use Rattle.table.proofs.WordLists.{Bytes}
 use Rattle.tokens.proofs.HighFirst.{halves}
+use Rattle.tokens.proofs.Sizes.{integer-few, rational-few}
 
 -- the value of at most eight bytes is that of the first eight
 first-eight : (d : List ℕ) → length d ≤ 8 → valueAfter 0 (take 8 d) ≡ valueAfter 0 d
@@ -31,7 +31,7 @@ integer-is : (at : ℕ) (d : List ℕ) (next : ℕ) → judgedBy 2 at (summaryOf
 unfolding judgedBy judged summaryOf roomOf
 integer-is at d next =
     under (integerSize (length d)) _ _ (Unread BadData at)
-    (λ h. ap (λ (v : ℕ). numberRead at next (ratioOf (signedOf (length d) v) (pos 1))) (first-eight d (omega (arith, leb-true (length d) 4 (both (leb 1 (length d)) (leb (length d) 4) h .1)))))
+    (λ h. ap (λ (v : ℕ). numberRead at next (ratioOf (signedOf (length d) v) (pos 1))) (first-eight d (omega (arith, integer-few (length d) h))))
 
 -- judging the value of two halves is judging the halves
 rational-by : (h : ℕ) (d : List ℕ) → length d ≡ h + h → Bytes d → rationalBy h (valueAfter 0 d) ≡ rationalIn h d
@@ -42,10 +42,9 @@ rational-is : (at : ℕ) (d : List ℕ) (next : ℕ) → Bytes d → judgedBy 4 
 unfolding judgedBy judged summaryOf roomOf
 rational-is at d next b =
     under (rationalSize (length d)) _ _ (Unread BadData at)
-    (λ h. let even = both (eqb (length d % 2) 0) (leb 2 (length d) && leb (length d) 8) h in
-    let few = leb-true (length d) 8 (both (leb 2 (length d)) (leb (length d) 8) (even .1) .1) in
-    let halved : length d ≡ length d / 2 + length d / 2 = omega (arith, eqb-true (length d % 2) 0 (even .0)) in
-    ap (numberRead at next) (ap (rationalBy (length d / 2)) (first-eight d few) ∙ rational-by (length d / 2) d halved b))
+    (λ h. let few = rational-few (length d) h in
+    let halved : length d ≡ length d / 2 + length d / 2 = omega (arith, few .0) in
+    ap (numberRead at next) (ap (rationalBy (length d / 2)) (first-eight d (few .1)) ∙ rational-by (length d / 2) d halved b))
 
 pub judged-is : (k at : ℕ) (d : List ℕ) (next : ℕ) → Bytes d → judgedBy k at (summaryOf k d) next ≡ judged k at d next
 unfolding judgedBy judged summaryOf ruleOf isName

@@ -23,17 +23,17 @@ use crate::sequences::is_continued;
 use crate::sequences::piece_at;
 use crate::text::all_obey;
 use crate::text::is_letter;
+use crate::values::integer_size;
+use crate::values::name_size;
+use crate::values::rational_size;
 use crate::values::value_after;
 
-// An identifier: 1 to 100 bytes, the first a letter.
+// An identifier: the first byte is a letter.
 fn is_name(s: &[u8], start: usize, len: usize) -> bool
     requires { ⌜ start + len ≤ length (now s) ⌝ }
     ensures { λ r. ⌜ r ≡ isName Named (slice start (start + len) (now (s .entry))) ⌝ }
 {
-    if len < 1 {
-        return false;
-    }
-    if 100 < len {
+    if !name_size(len) {
         return false;
     }
     if !is_letter(s[start]) {
@@ -49,10 +49,7 @@ fn is_integer(s: &[u8], start: usize, len: usize) -> bool
     requires { ⌜ start + len ≤ length (now s) ⌝ }
     ensures { λ r. ⌜ (r ≡ true → (integerSize len ≡ true) × Answered (ratioOf (integerIn len (slice start (start + len) (now (s .entry)))) (pos 1))) ⌝ }
 {
-    if len < 1 {
-        return false;
-    }
-    if 4 < len {
+    if !integer_size(len) {
         return false;
     }
     value_after(0, 0, s, start, len) != LEAST
@@ -63,13 +60,7 @@ fn is_rational(s: &[u8], start: usize, len: usize) -> bool
     requires { ⌜ start + len ≤ length (now s) ⌝ }
     ensures { λ r. ⌜ (r ≡ true → (rationalSize len ≡ true) × Answered (rationalIn (len / 2) (slice start (start + len) (now (s .entry))))) ⌝ }
 {
-    if len % 2 != 0 {
-        return false;
-    }
-    if len < 2 {
-        return false;
-    }
-    if 8 < len {
+    if !rational_size(len) {
         return false;
     }
     let h = len / 2;
@@ -104,7 +95,7 @@ fn is_sound(k: u8, s: &[u8], start: usize, len: usize) -> bool
 }
 
 // A continued token stands at `at`.
-fn goes_on(s: &[u8], at: usize) -> bool
+fn is_continued_at(s: &[u8], at: usize) -> bool
     ensures { λ r. ⌜ r ≡ continued (getD (now (s .entry)) at 0) ⌝ }
 {
     if s.len() <= at {
@@ -133,7 +124,7 @@ pub fn pass_sequence(s: &[u8], at: usize) -> Pass
 {
     if let Piece::Data { start, len } = piece_at(s, at) {
         let next = start + len;
-        if !goes_on(s, next) {
+        if !is_continued_at(s, next) {
             if is_sound(low5(s[at]), s, start, len) {
                 return Pass::Over { next };
             }

@@ -25,7 +25,10 @@ use crate::sequences::piece_at;
 use crate::text::is_letter;
 use crate::values::extended;
 use crate::values::high_half;
+use crate::values::integer_size;
 use crate::values::low_half;
+use crate::values::name_size;
+use crate::values::rational_size;
 
 fn bad_data(at: usize) -> Read
     ensures { λ r. ⌜ r ≡ Read.Unread Refusal.BadData at ⌝ }
@@ -62,16 +65,12 @@ fn number_read(at: usize, next: usize, answer: numbers::Answer) -> Read
     }
 }
 
-// Data of an integer: 1 to 4 bytes.
 fn judge_integer(at: usize, g: Summary, next: usize) -> Read
     requires { ⌜ Fitting g ⌝ }
     ensures { λ r. ⌜ r ≡ ruled at (integerSize (g .len)) (numberRead at next (ratioOf (signedOf (g .len) (g .value)) (pos 1))) ⌝ }
 {
     let len = g.len;
-    if len < 1 {
-        return bad_data(at);
-    }
-    if 4 < len {
+    if !integer_size(len) {
         return bad_data(at);
     }
     number_read(at, next, numbers::lowest::ratio(extended(g.value, len), 1))
@@ -85,33 +84,23 @@ fn rational(h: usize, v: u64) -> numbers::Answer
     numbers::lowest::ratio(extended(high_half(v, h), h), extended(low_half(v, h), h))
 }
 
-// Data of a rational: 2, 4, 6 or 8 bytes.
 fn judge_rational(at: usize, g: Summary, next: usize) -> Read
     requires { ⌜ Fitting g ⌝ }
     ensures { λ r. ⌜ r ≡ ruled at (rationalSize (g .len)) (numberRead at next (rationalBy (g .len / 2) (g .value))) ⌝ }
 {
     let len = g.len;
-    if len % 2 != 0 {
-        return bad_data(at);
-    }
-    if len < 2 {
-        return bad_data(at);
-    }
-    if 8 < len {
+    if !rational_size(len) {
         return bad_data(at);
     }
     number_read(at, next, rational(len / 2, g.value))
 }
 
-// Data of an identifier: 1 to 100 bytes, the first a letter.
+// Data of an identifier: the first byte is a letter.
 fn judge_identifier(at: usize, g: Summary, next: usize) -> Read
     ensures { λ r. ⌜ r ≡ ruled at (leb 1 (g .len) && (leb (g .len) longestName && (isLetter (g .first) && g .good))) (Read.Identifier (g .len) next) ⌝ }
 {
     let len = g.len;
-    if len < 1 {
-        return bad_data(at);
-    }
-    if 100 < len {
+    if !name_size(len) {
         return bad_data(at);
     }
     if !is_letter(g.first) {
@@ -186,20 +175,25 @@ fn sequence_at(s: &[u8], at: usize) -> Read
 }
 
 // A short number: 15 bits less 4000.
-pub fn short_number(raw: u16) -> i32
+fn short_number(raw: u16) -> i32
     ensures { λ r. ⌜ r ≡ pos raw -ℤ pos bias ⌝ }
 {
     (raw as i32) - 4000
 }
 
+// The value of a short number of 15 bits `raw`.
+pub fn short_value(raw: u16) -> numbers::Number
+    ensures { λ r. ⌜ r ≡ record { num = pos raw -ℤ pos bias; den = 1 } ⌝ }
+{
+    let num = short_number(raw);
+    numbers::Number { num, den: 1 }
+}
+
 fn number_token(raw: u16, next: usize) -> Read
     ensures { λ r. ⌜ r ≡ Read.Number (record { num = pos raw -ℤ pos bias; den = 1 }) next ⌝ }
 {
-    let num = short_number(raw);
-    Read::Number {
-        value: numbers::Number { num, den: 1 },
-        next,
-    }
+    let value = short_value(raw);
+    Read::Number { value, next }
 }
 
 // The token that stands at `at`. The end of the input is no token.

@@ -1,9 +1,46 @@
-// The value of bytes, high byte first, and two's complement of 1 to 4 bytes.
+// How many bytes a number or an identifier has; the value of bytes, high byte first, and two's complement of 1 to 4 bytes.
 ghost use mathlib.Core.Path.{_≡_};
 ghost use Prim.Native.Nat.{_+_, _*_, _/_, _%_, _^_, _<_, _≤_};
+ghost use mathlib.Core.Bool.{_&&_};
+ghost use lib.Dec.{leb};
 ghost use lib.ListN.{length};
 ghost use lib.Seq.{slice};
+ghost use Rattle.tokens.specs.Format.{longestName};
 ghost use Rattle.tokens.specs.Bytes.{valueAfter, signedOf};
+ghost use Rattle.tokens.specs.Token.{integerSize, rationalSize};
+
+// An integer: 1 to 4 bytes.
+pub fn integer_size(len: usize) -> bool
+    ensures { λ r. ⌜ r ≡ integerSize len ⌝ }
+{
+    if len < 1 {
+        return false;
+    }
+    len <= 4
+}
+
+// A rational: 2, 4, 6 or 8 bytes.
+pub fn rational_size(len: usize) -> bool
+    ensures { λ r. ⌜ r ≡ rationalSize len ⌝ }
+{
+    if len % 2 != 0 {
+        return false;
+    }
+    if len < 2 {
+        return false;
+    }
+    len <= 8
+}
+
+// An identifier: 1 to 100 bytes.
+pub fn name_size(len: usize) -> bool
+    ensures { λ r. ⌜ r ≡ leb 1 len && leb len longestName ⌝ }
+{
+    if len < 1 {
+        return false;
+    }
+    len <= 100
+}
 
 // The value of `len` bytes of `s` from `at` on, set after the `had` bytes of value `before`.
 pub fn value_after(before: u64, had: usize, s: &[u8], at: usize, len: usize) -> u64

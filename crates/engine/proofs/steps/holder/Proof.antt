@@ -1,8 +1,7 @@
 -- `steps::holder` meets its contract. Assumes nothing.
 use borrow.Author.Needs.{needs}
 use mathlib.Core.Path.{refl}
-use Rattle.engine.proofs.Stepping.{busy-lower, holder-few, holder-fits, holder-done}
-use mathlib.Core.List.{[]}
+use Rattle.engine.proofs.Stepping.{busy-lower, holder-few, tops-fit, holder-done}
 use Prim.Native.Nat.{_-_}
 use Rattle.engine.proofs.steps.holder.Statement.{statement}
 use Rattle.engine.proofs.steps.holder.Tie as tie
@@ -19,7 +18,7 @@ holder-spec =
     (λ c. search (needs, holder-few))
     (λ c κs. search needs)
     (λ c κs. search needs)
-    (λ c. holder-fits [] _ 0 0 _ _ _ (c .before .before .before .before .before .before .before .before .before .before .before .before .pre .0) (c .before .before .before .before .before .before .before .before .body-op-of .ensures) (c .before .before .before .before .before .before .before .arity .ensures) (c .before .before .before .before .before .tops .ensures) (c .before .before .before .if1 .left))
+    (λ c. tops-fit _ _ _ _ (c .before .before .before .before .before .tops .ensures) (c .before .before .before .if1 .left))
     (λ c κs. (busy-lower _ (c .before .before .before .before .before .before .before .before .before .before .before .before .before .pre .0) refl, c .before .before .before .before .before .before .before .before .before .before .before .before .before .pre .1, c .before .before .effect .ensures .1))
     (λ c. search needs)
     (λ c. holder-done _ _ _ _ _ _ _ (c .before .before .before .before .before .before .before .before .before .before .before .before .before .before .before .before .pre .0) (c .before .before .before .before .before .before .before .before .before .before .before .before .body-op-of .ensures) (c .before .before .before .before .before .before .before .before .before .before .before .arity .ensures) (c .before .before .before .before .before .before .before .before .before .tops .ensures) _ _ (c .before .before .before .before .before .before .before .if1 .left) (c .before .before .before .before .before .before .value-of .ensures) (c .before .before .before .before .before .effect .ensures .0) refl (c .before .before .affect .ensures)))

@@ -1,8 +1,7 @@
 -- `steps::plain` meets its contract. Assumes nothing.
 use borrow.Author.Needs.{needs}
 use mathlib.Core.Path.{refl}
-use Rattle.engine.proofs.Stepping.{busy-lower, small-value, plain-few, plain-fits, plain-done}
-use mathlib.Core.List.{[]}
+use Rattle.engine.proofs.Stepping.{busy-lower, small-value, plain-few, tops-fit, plain-done}
 use Prim.Native.Nat.{_-_}
 use Rattle.engine.proofs.steps.plain.Statement.{statement}
 use Rattle.engine.proofs.steps.plain.Tie as tie
@@ -20,7 +19,7 @@ plain-spec =
     (λ c κs. search needs)
     (λ c κs. search needs)
     (λ c κs. (small-value _ _ (c .before .value-of .ensures), small-value _ _ (c .value-of2 .ensures)))
-    (λ c. plain-fits [] _ _ _ _ (c .before .before .before .before .before .before .before .before .before .before .before .before .before .pre .0) (c .before .before .before .before .before .before .before .before .before .op-of .ensures) (c .before .before .before .before .before .before .before .before .arity-of .ensures) (c .before .before .before .before .before .before .tops .ensures) (c .before .before .before .before .if1 .left))
+    (λ c. tops-fit _ _ _ _ (c .before .before .before .before .before .before .tops .ensures) (c .before .before .before .before .if1 .left))
     (λ c κs. (busy-lower _ (c .before .before .before .before .before .before .before .before .before .before .before .before .before .before .pre .0) refl, c .before .before .before .before .before .before .before .before .before .before .before .before .before .before .pre .1, c .before .before .effect-of .ensures .1))
     (λ c. search needs)
     (λ c. plain-done _ _ _ _ _ (c .before .before .before .before .before .before .before .before .before .before .before .before .before .before .before .before .before .pre .0) (c .before .before .before .before .before .before .before .before .before .before .before .before .before .op-of .ensures) (c .before .before .before .before .before .before .before .before .before .before .before .before .arity-of .ensures) (c .before .before .before .before .before .before .before .before .before .before .tops .ensures) _ _ _ (c .before .before .before .before .before .before .before .before .if1 .left) (c .before .before .before .before .before .before .before .value-of .ensures) (c .before .before .before .before .before .before .value-of2 .ensures) (c .before .before .before .before .before .effect-of .ensures .0) refl (c .before .before .affect .ensures)))

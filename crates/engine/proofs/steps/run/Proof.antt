@@ -1,13 +1,14 @@
 -- `steps::run` meets its contract. Assumes nothing.
-use borrow.Author.Needs.{needs}
-use mathlib.Core.Path.{_≡_}
-use lib.ListN.{length}
-use native.Mathlib.Omega.{arith}
-use Rattle.engine.proofs.Stepping.{run-out, run-ended, run-on, run-aside, run-forth, forth-aside}
-use Prim.Native.Nat.{_+_, _-_, _≤_}
-use Rattle.machine.specs.Step.{run}
-use Rattle.literals.specs.Names.{both}
+use Rattle.engine.proofs.Swiftly.{run-onward}
+use Rattle.engine.proofs.Stepping.{run-out, run-ended}
 use Rattle.state.specs.Layout.{Good, abs, aside}
+use Rattle.literals.specs.Names.{both}
+use Rattle.machine.specs.Step.{run}
+use Prim.Native.Nat.{_+_, _≤_}
+use lib.ListN.{length}
+use mathlib.Core.Path.{_≡_, refl, _∙_}
+use native.Mathlib.Omega.{arith}
+use borrow.Author.Needs.{needs}
 use Rattle.engine.proofs.steps.run.Statement.{statement}
 use Rattle.engine.proofs.steps.run.Tie as tie
 
@@ -23,17 +24,13 @@ run-spec =
     (tie.spec
     Inv-loop
     μ-loop
-    (λ c. search needs)
-    (λ c. search needs)
-    (λ c. record { good = search needs; does = search (needs, run-ended); keeps = search needs; counted = search needs })
-    (λ c κs. search needs)
-    (λ c. search needs)
-    (λ c. search needs)
-    (λ c. (search needs, search needs, search needs, search needs, search (needs, run-aside), search (needs, run-on)))
-    (λ c κs. search needs)
-    (λ c. search needs)
-    (λ c. search needs)
-    (λ c. search needs)
-    (λ c. (search needs, search needs, search needs, search needs, search (needs, forth-aside), search (needs, run-forth)))
-    (λ c. search needs)
-    (λ c. record { good = search needs; does = search (needs, run-out); keeps = search needs; counted = search needs }))
+    (λ c. (search needs, refl, omega arith, omega arith, refl, refl))
+    (λ c. c .before .before .before .loop .inv .1)
+    (λ c. record { good = c .before .before .before .loop .inv .0; does = run-ended _ _ _ _ (c .before .before .before .loop .r) (c .before .before .before .loop .inv .5) (c .before .before .loop-test .taken) (c .if1 .taken); keeps = c .before .before .before .loop .inv .4; counted = omega (arith, c .before .before .before .loop .inv .2) })
+    (λ c κs. (c .before .before .before .before .loop .inv .0, omega (arith, c .before .if1 .left), c .before .before .before .loop-test .taken, omega (arith, c .before .before .before .before .loop .inv .2, c .before .before .before .before .before .before .before .before .pre .1), c .before .before .before .before .before .before .before .before .pre .2))
+    (λ c. omega (arith, c .before .before .before .before .onward .ensures .some))
+    (λ c. omega (arith, c .before .before .before .before .onward .ensures .within))
+    (λ c. omega (arith, c .before .before .before .before .onward .ensures .some, c .before .before .before .before .onward .ensures .within, c .before .before .before .before .before .before .before .before .loop-test .taken))
+    (λ c. (c .before .before .before .before .onward .ensures .good, omega (arith, c .before .before .before .w .given, c .before .before .before .before .before .before .before .before .before .loop .inv .1), omega (arith, c .before .before .before .before .onward .ensures .some, c .before .before .before .before .onward .ensures .within, c .before .before .before .before .before .before .before .before .before .loop .inv .2), omega (arith, c .before .before .before .before .before .before .before .before .before .loop .inv .3), c .before .before .before .before .onward .ensures .keeps ∙ c .before .before .before .before .before .before .before .before .before .loop .inv .4, run-onward _ (c .before .before .before .before .before .before .before .before .before .loop .inv .5) (c .before .before .before .before .onward .ensures)))
+    (λ c. c .before .loop .inv .1)
+    (λ c. record { good = c .before .loop .inv .0; does = run-out _ _ _ _ (c .before .loop .r) (c .before .loop .inv .5) (c .loop-test .left); keeps = c .before .loop .inv .4; counted = omega (arith, c .before .loop .inv .2) }))

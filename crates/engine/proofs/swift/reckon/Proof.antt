@@ -1,11 +1,12 @@
 -- `swift::reckon` meets its contract. Assumes nothing.
-use borrow.Author.Needs.{needs}
-use mathlib.Core.Path.{refl}
-use mathlib.Core.List.{[]}
-use Rattle.engine.proofs.Stepping.{plain-fits, plain-done}
-use Rattle.engine.proofs.Stepping.{busy-lower}
+use Rattle.engine.proofs.Level.{flat-undone}
+use Rattle.engine.proofs.Swiftly.{by-arith}
+use Rattle.engine.proofs.Acting.{is-gives}
+use Rattle.engine.proofs.Stepping.{tops-fit, plain-flat}
 use Rattle.machine.specs.declared.Op.the-variants.{Reckons}
-use Rattle.engine.proofs.Swiftly.{reckon-few, two-of, by-arith}
+use mathlib.Core.Path.{refl}
+use native.Mathlib.Omega.{arith}
+use borrow.Author.Needs.{needs}
 use Rattle.engine.proofs.swift.reckon.Statement.{statement}
 use Rattle.engine.proofs.swift.reckon.Tie as tie
 
@@ -14,14 +15,16 @@ reckon-spec =
     tie.close
     (tie.spec
     (λ c κs. search needs)
+    (λ c. search needs)
+    (λ c. λ code n i. flat-undone _ (omega arith))
+    (λ c κs. search needs)
+    (λ c κs. search needs)
+    (λ c κs. search needs)
+    (λ c. tops-fit _ _ _ _ (c .before .before .before .before .before .before .tops .ensures) (c .before .before .before .before .if1 .left))
+    (λ c. search needs)
+    (λ c κs. search needs)
     (λ c κs. search needs)
     (λ c. search needs)
-    (λ c. reckon-few _ _ (c .before .before .before .before .before .before .before .before .pre .0) (c .before .before .before .before .before .before .before .before .pre .2) _ (c .before .before .before .tops .ensures) (c .before .if1 .taken) (c .failed .ensures))
-    (λ c κs. search needs)
-    (λ c κs. search needs)
-    (λ c κs. search needs)
-    (λ c κs. search needs)
-    (λ c. plain-fits [] _ 2 _ _ (c .before .before .before .before .before .before .before .before .before .before .before .before .pre .0) (c .before .before .two-numbers .ensures) (two-of _ _ (c .before .before .before .before .before .before .before .before .before .before .before .before .pre .2) (c .before .before .two-numbers .ensures)) (c .before .before .before .before .before .before .before .tops .ensures) (c .before .before .before .before .before .if1 .left))
-    (λ c κs. (busy-lower _ (c .before .before .before .before .before .before .before .before .before .before .before .before .before .pre .0) refl, c .before .before .before .before .before .before .before .before .before .before .before .before .before .pre .1, c .before .before .effect .ensures .1))
+    (λ c. λ code n i. plain-flat code n 2 (Reckons (c .before .before .before .before .before .before .before .before .before .before .before .before .before .before .before .before .before .args .o)) _ (c .before .before .before .before .before .before .before .before .before .before .before .before .before .before .before .before .before .pre .0) i (c .before .before .before .before .before .before .before .before .before .before .before .before .before .before .before .before .before .pre .1, omega arith) (c .before .before .before .before .before .before .before .before .before .before .before .before .before .before .tops .ensures) _ _ _ (c .before .before .before .before .before .before .before .before .before .before .before .before .if1 .left) (c .before .before .before .before .before .before .before .before .before .before .before .value-of .ensures) (c .before .before .before .before .before .before .before .before .before .before .value-of2 .ensures) (by-arith _ _ _ (c .before .before .before .before .before .before .before .before .before .before .before .before .before .before .before .before .before .args .o) (c .before .before .before .before .before .before .before .before .before .effect .ensures .0)) refl (is-gives code _ _ (c .before .before .before .before .before .before .e .given .1) (c .before .before .before .push-number .ensures)) _ (rw (c .before .before .before .before .before .before .e .given .1)) (c .height-of .ensures))
     (λ c. search needs)
-    (λ c. plain-done _ _ 2 _ _ (c .before .before .before .before .before .before .before .before .before .before .before .before .before .before .before .before .pre .0) (c .before .before .before .before .before .before .two-numbers .ensures) (two-of _ _ (c .before .before .before .before .before .before .before .before .before .before .before .before .before .before .before .before .pre .2) (c .before .before .before .before .before .before .two-numbers .ensures)) (c .before .before .before .before .before .before .before .before .before .before .before .tops .ensures) _ _ _ (c .before .before .before .before .before .before .before .before .before .if1 .left) (c .before .before .before .before .before .before .before .before .value-of .ensures) (c .before .before .before .before .before .before .before .value-of2 .ensures) (by-arith _ _ _ _ (c .before .before .before .before .before .effect .ensures .0)) refl (c .before .before .given .ensures)))
+    (λ c. λ code n i. flat-undone _ (omega arith)))

@@ -1,6 +1,7 @@
 -- `works::act` meets its contract. Assumes nothing.
 use borrow.Author.Needs.{needs}
 use Rattle.engine.proofs.Acting.{sized-works, sized-inline, by-works, by-inline, by-call, by-store, by-place, by-remove, by-tally}
+use Rattle.engine.proofs.Level.{marks-low}
 use Rattle.engine.proofs.works.act.Statement.{statement}
 use Rattle.engine.proofs.works.act.Tie as tie
 
@@ -24,7 +25,7 @@ act-spec =
     (λ c κs. search needs)
     (λ c κs. search needs)
     (λ c. search needs)
-    (λ c κs. search needs)
+    (λ c κs. (search needs, marks-low _ _))
     (λ c. search needs)
     (λ c. search (needs, by-works))
     (λ c. search needs)

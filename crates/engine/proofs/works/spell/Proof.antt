@@ -1,6 +1,6 @@
 -- `works::spell` meets its contract. Assumes nothing.
-use borrow.Author.Needs.{needs}
 use Rattle.engine.proofs.Working.{spell-as}
+use borrow.Author.Needs.{needs}
 use Rattle.engine.proofs.works.spell.Statement.{statement}
 use Rattle.engine.proofs.works.spell.Tie as tie
 
@@ -10,5 +10,6 @@ spell-spec =
     (tie.spec
     (λ c κs. search needs)
     (λ c κs. search needs)
+    (λ c κs. search needs)
     (λ c. search needs)
-    (λ c. search (needs, spell-as)))
+    (λ c. spell-as _ _ _ _ (c .before .before .before .before .before .running .ensures .0) (c .before .before .before .before .bytes-of .ensures) (c .before .before .spell .ensures)))

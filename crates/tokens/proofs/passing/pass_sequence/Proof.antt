@@ -27,7 +27,7 @@ is-sound-requires c κs =
 returns : tie.Need-returns
 returns c =
     let a = c .before .before .before .before .before .before .before .before .before .before .before .args in
-    let p = one-piece (a .s .now) (a .at) (omega arith) (omega arith) _ _ (sym (c .before .before .before .before .before .before .before .before .before .piece-at .ensures) ∙ c .before .before .before .before .before .before .before .start .given .1) (sym (c .before .before .before .before .before .goes-on .ensures) ∙ not-true _ (c .before .before .before .before .if1 .taken)) in
+    let p = one-piece (a .s .now) (a .at) (omega arith) (omega arith) _ _ (sym (c .before .before .before .before .before .before .before .before .before .piece-at .ensures) ∙ c .before .before .before .before .before .before .before .start .given .1) (sym (c .before .before .before .before .before .is-continued-at .ensures) ∙ not-true _ (c .before .before .before .before .if1 .taken)) in
     sym (ap passOf p ∙ rw (c .before .before .low5 .ensures) at (c .before .is-sound .ensures (c .if2 .taken) (a .at) (c .before .before .before .before .before .before .before .start .given .0 .0 + c .before .before .before .before .before .before .before .start .given .0 .1 .0)))
 
 pub pass-sequence-spec : {M : Type 1} → statement M

@@ -1,0 +1,47 @@
+-- `swift::sprint` meets its contract. Assumes nothing.
+use Rattle.engine.proofs.Swiftly.{none-run, ready-here, undone, good-stepped, sprint-stop, sprint-on, sprint-ends}
+use Rattle.engine.proofs.Level.{marks-low}
+use Rattle.engine.specs.Swift.{marked}
+use Rattle.state.specs.Layout.{aside, abs, Good}
+use Rattle.literals.specs.Names.{both}
+use Rattle.machine.specs.Step.{run}
+use lib.ListN.{length}
+use Prim.Native.Nat.{_+_, _-_, _≤_}
+use mathlib.Core.Bool.{false}
+use mathlib.Core.Path.{_≡_, refl, _∙_}
+use native.Mathlib.Omega.{arith}
+use borrow.Author.Needs.{needs}
+use Rattle.engine.proofs.swift.sprint.Statement.{statement}
+use Rattle.engine.proofs.swift.sprint.Tie as tie
+
+abbrev Inv-loop : tie.InvT-loop
+Inv-loop w₀ pre body b origin most depth clear r₀ left₀ w r left =
+    Good w r × (r .depth ≡ depth) × (r .skipping ≡ false) × (r .ok ≡ false) × (length w ≡ length w₀) × (r .steps + left ≡ r₀ .steps + most) × (left ≤ most) × (marked w (r .height) ≤ clear) × (aside w ≡ aside w₀) × (run (most - left) (both pre body) (abs w₀ r₀) ≡ abs w r)
+
+abbrev μ-loop : tie.MeasureT-loop
+μ-loop w₀ pre body b origin most depth clear r₀ left₀ w r left = left
+
+pub sprint-spec : {M : Type 1} → statement M
+sprint-spec =
+    tie.close
+    (tie.spec
+    Inv-loop
+    μ-loop
+    (λ c. (search needs, refl, c .before .before .before .before .pre .2, refl, refl, refl, omega arith, marks-low _ _, refl, none-run _ _ _))
+    (λ c κs. search needs)
+    (λ c. c .before .before .before .before .before .loop .inv .4)
+    (λ c. sprint-stop _ _ _ (c .before .before .before .before .before .before .before .before .before .before .args .start) _ _ _ (c .before .before .before .before .before .loop .inv .0) (rw (c .before .before .before .before .before .loop .inv .1) (c .before .before .before .before .before .before .before .before .before .before .pre .1)) (c .before .before .before .before .before .loop .inv .2) (c .before .before .before .before .before .loop .inv .6) (c .before .before .before .before .before .loop .inv .5) (c .before .before .before .before .before .loop .inv .8) (c .before .before .before .before .before .loop .inv .9) refl refl (c .before .before .before .before .before .loop .inv .3))
+    (λ c κs. search needs)
+    (λ c κs. (ready-here (c .before .before .before .before .before .before .before .before .before .before .before .before .args .origin) _ _ _ (c .before .before .before .before .before .before .before .loop .inv .0) (c .before .before .before .before .before .before .before .loop .inv .1) (c .before .before .before .before .before .before .before .before .before .before .before .before .pre .1) (c .before .before .before .before .before .before .before .loop .inv .2) (omega (arith, c .before .before .before .before .before .before .before .loop .inv .5, c .before .before .before .before .before .before .before .before .before .before .before .before .pre .3, c .before .before .before .before .before .before .before .loop .inv .6)) (c .before .before .before .before .before .before .before .before .before .before .before .before .pre .5) (c .before .before .before .before .running .ensures .0) (c .before .before .if1 .left) (c .size .ensures .0 ∙ c .before .before .before .before .running .ensures .1), c .before .before .before .before .before .before .before .before .before .before .before .before .pre .4, c .before .before .before .before .before .before .before .loop .inv .7))
+    (λ c κs. (c .before .before .before .before .before .before .before .before .before .before .before .before .before .before .before .before .before .pre .1, omega (arith, c .before .before .before .before .before .before .before .before .before .before .before .before .before .before .before .before .before .pre .0 .depth-fits), omega (arith, c .before .before .before .w .given, c .before .before .before .before .before .before .before .before .before .before .before .before .loop .inv .0 .room)))
+    (λ c. omega (arith, c .before .w2 .given, c .before .before .before .before .before .before .w .given, c .before .before .before .before .before .before .before .before .before .before .before .before .before .before .before .loop .inv .4))
+    (λ c. sprint-stop _ _ _ (c .before .before .before .before .before .before .before .before .before .before .before .before .before .before .before .before .before .before .before .before .args .start) _ _ _ (c .before .before .before .before .before .before .before .before .before .before .before .before .before .before .before .loop .inv .0) (rw (c .before .before .before .before .before .before .before .before .before .before .before .before .before .before .before .loop .inv .1) (c .before .before .before .before .before .before .before .before .before .before .before .before .before .before .before .before .before .before .before .before .pre .1)) (c .before .before .before .before .before .before .before .before .before .before .before .before .before .before .before .loop .inv .2) (c .before .before .before .before .before .before .before .before .before .before .before .before .before .before .before .loop .inv .6) (c .before .before .before .before .before .before .before .before .before .before .before .before .before .before .before .loop .inv .5) (c .before .before .before .before .before .before .before .before .before .before .before .before .before .before .before .loop .inv .8) (c .before .before .before .before .before .before .before .before .before .before .before .before .before .before .before .loop .inv .9) (omega (arith, c .before .w2 .given, c .before .before .before .before .before .before .w .given)) (undone _ _ _ _ _ _ _ (c .before .before .go-to .ensures) (c .before .before .before .before .before .before .before .before .before .before .before .before .before .before .before .loop .inv .1) (c .before .before .before .before .before .before .before .before .size .ensures .0) (c .before .before .before .before .before .before .before .literal .ensures .back (c .before .before .before .before .if2 .taken))) (c .before .before .before .before .before .before .before .before .before .before .before .before .before .before .before .loop .inv .3))
+    (λ c. omega (arith, c .before .before .before .before .before .before .before .before .before .before .before .before .loop .inv .5, c .before .before .before .before .before .before .before .before .before .before .before .before .before .before .before .before .before .pre .3, c .before .before .before .before .before .before .before .before .before .before .before .before .loop .inv .6))
+    (λ c. search needs)
+    (λ c κs. (good-stepped _ _ _ _ (c .before .before .before .before .before .before .before .before .before .before .before .before .before .loop .inv .0) (c .before .before .before .before .w .given) (c .before .before .if2 .left), c .before .before .before .before .before .before .before .before .before .before .before .before .before .before .before .before .before .before .pre .1))
+    (λ c. search needs)
+    (λ c. (good-stepped _ _ _ _ (c .before .before .before .before .before .before .before .before .before .before .before .before .before .before .before .loop .inv .0) (c .before .before .before .before .before .before .w .given) (c .before .before .before .before .if2 .left), c .before .before .before .before .before .before .before .before .before .before .before .before .before .before .before .loop .inv .1, c .before .before .before .before .before .before .before .before .before .before .before .before .before .before .before .loop .inv .2, c .before .before .before .before .before .before .before .before .before .before .before .before .before .before .before .loop .inv .3, omega (arith, c .before .before .before .before .before .before .w .given, c .before .before .before .before .before .before .before .before .before .before .before .before .before .before .before .loop .inv .4), omega (arith, c .before .before .before .before .before .before .before .before .before .before .before .before .before .before .before .loop .inv .5, c .before .before .before .before .before .before .before .before .before .before .before .before .before .before .loop-test .taken), omega (arith, c .before .before .before .before .before .before .before .before .before .before .before .before .before .before .before .loop .inv .6), omega (arith, c .before .before .before .before .before .before .before .literal .ensures .low (c .before .before .before .before .if2 .left), c .before .before .before .before .before .before .before .before .before .before .before .before .before .before .before .loop .inv .7), c .before .before .before .before .before .before .before .literal .ensures .keeps (c .before .before .before .before .if2 .left) ∙ c .before .before .before .before .before .before .before .before .before .before .before .before .before .before .before .loop .inv .8, sprint-on _ _ _ (c .before .before .before .before .before .before .before .before .before .before .before .before .before .before .before .before .before .before .before .before .args .start) _ _ _ (c .before .before .before .before .before .before .before .before .before .before .before .before .before .before .before .loop .inv .0) (rw (c .before .before .before .before .before .before .before .before .before .before .before .before .before .before .before .loop .inv .1) (c .before .before .before .before .before .before .before .before .before .before .before .before .before .before .before .before .before .before .before .before .pre .1)) (c .before .before .before .before .before .before .before .before .before .before .before .before .before .before .before .loop .inv .2) (c .before .before .before .before .before .before .before .before .before .before .before .before .before .before .before .loop .inv .6) (c .before .before .before .before .before .before .before .before .before .before .before .before .before .before .before .loop .inv .5) (c .before .before .before .before .before .before .before .before .before .before .before .before .before .before .before .loop .inv .8) (c .before .before .before .before .before .before .before .before .before .before .before .before .before .before .before .loop .inv .9) _ _ (c .before .before .before .before .before .before .before .before .before .before .before .before .before .before .loop-test .taken) (c .before .before .before .before .if2 .left) (c .before .before .before .before .before .before .before .literal .ensures) _ refl (c .before .goes-on .ensures (c .if3 .taken) .1)))
+    (λ c. omega (arith, c .before .before .before .before .before .before .w .given, c .before .before .before .before .before .before .before .before .before .before .before .before .before .before .before .loop .inv .4))
+    (λ c. sprint-ends _ _ _ (c .before .before .before .before .before .before .before .before .before .before .before .before .before .before .before .before .before .before .before .before .args .start) _ _ _ (c .before .before .before .before .before .before .before .before .before .before .before .before .before .before .before .loop .inv .0) (rw (c .before .before .before .before .before .before .before .before .before .before .before .before .before .before .before .loop .inv .1) (c .before .before .before .before .before .before .before .before .before .before .before .before .before .before .before .before .before .before .before .before .pre .1)) (c .before .before .before .before .before .before .before .before .before .before .before .before .before .before .before .loop .inv .2) (c .before .before .before .before .before .before .before .before .before .before .before .before .before .before .before .loop .inv .6) (c .before .before .before .before .before .before .before .before .before .before .before .before .before .before .before .loop .inv .5) (c .before .before .before .before .before .before .before .before .before .before .before .before .before .before .before .loop .inv .8) (c .before .before .before .before .before .before .before .before .before .before .before .before .before .before .before .loop .inv .9) _ _ (c .before .before .before .before .before .before .before .before .before .before .before .before .before .before .loop-test .taken) (c .before .before .before .before .if2 .left) (c .before .before .before .before .before .before .before .literal .ensures) (c .before .before .before .before .before .before .w .given))
+    (λ c. c .before .loop .inv .4)
+    (λ c. sprint-stop _ _ _ (c .before .before .before .before .before .before .args .start) _ _ _ (c .before .loop .inv .0) (rw (c .before .loop .inv .1) (c .before .before .before .before .before .before .pre .1)) (c .before .loop .inv .2) (c .before .loop .inv .6) (c .before .loop .inv .5) (c .before .loop .inv .8) (c .before .loop .inv .9) refl refl (c .before .loop .inv .3)))
