@@ -172,7 +172,7 @@ fn is_other(n: u16) -> bool {
     }
 }
 
-// Any operator.
+// Any operator, through its effect.
 fn seldom<'a>(w: &mut [u8], r: Registers, pre: &'a [u8], body: &'a [u8], n: u16) -> usize
     requires { ⌜ Busy (now w) r × Short (now pre) (now body) ⌝ }
     ensures { λ h. ⌜ Flat (execute (both (now (pre .entry)) (now (body .entry))) (Plain n)) (now (w .entry)) r (now (w .exit)) h × (h ≤ 128 → roleOf n ≡ role.Plain) ⌝ }
@@ -197,7 +197,7 @@ fn seldom<'a>(w: &mut [u8], r: Registers, pre: &'a [u8], body: &'a [u8], n: u16)
     UNDONE
 }
 
-// No mark stands at the height `clear` or above.
+// An operator. No mark stands at the height `clear` or above.
 fn operate<'a>(
     w: &mut [u8],
     r: Registers,
@@ -273,7 +273,8 @@ fn literal<'a>(
     }
 }
 
-// Literals of the running body, whose bytes are b, as long as they can be executed here and the body goes on.
+// Literals of the running body, whose bytes are b, as long as they can be executed here and the body goes on. `ok` says that the last one
+// has ended its body, which is still to be left.
 pub fn sprint<'a>(
     w: &mut [u8],
     start: Registers,
