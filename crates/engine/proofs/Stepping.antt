@@ -244,7 +244,7 @@ module _ {w w₁ : List ℕ} {r q : Registers} (pre body : List ℕ) (c : Place)
 
 -- ---- a run
 
-pub not-ended : (m : List Slot) (d : ℕ) → 0 < d → ended (contextsOf m d) ≡ false
+not-ended : (m : List Slot) (d : ℕ) → 0 < d → ended (contextsOf m d) ≡ false
 unfolding ended
 not-ended m d h = rw (contexts-top m d h)
 
@@ -270,10 +270,14 @@ unfolding run
 last-by code n s true h e f = not-on (sym (rw h at e) ∙ h)
 last-by code n s false h e f = rw h (f (rw h at e))
 
-pub run-last : (code : Code) (n : ℕ) (s : State) → ended (run n code s .contexts) ≡ false → run (suc n) code s ≡ step code (run n code s)
+run-last : (code : Code) (n : ℕ) (s : State) → ended (run n code s .contexts) ≡ false → run (suc n) code s ≡ step code (run n code s)
 unfolding run
 run-last code zero s e = rw e
 run-last code (suc n) s e = last-by code n s (ended (s .contexts)) refl e (λ h. run-last code n (step code s) h)
+
+-- a step after k steps
+pub run-next : (code : Code) (k : ℕ) (s : State) (w : List ℕ) (r : Registers) → run k code s ≡ abs w r → 0 < r .depth → run (suc k) code s ≡ step code (abs w r)
+run-next code k s w r inv runs = run-last code k s (rw inv (not-ended (slots w) (r .depth) runs)) ∙ ap (step code) inv
 
 both-by : (code : Code) (k m : ℕ) (s : State) (b : Bool) → ended (s .contexts) ≡ b → run (k + m) code (step code s) ≡ run m code (run k code (step code s)) → run (suc (k + m)) code s ≡ run m code (run (suc k) code s)
 unfolding run

@@ -50,7 +50,7 @@ use Rattle.machine.specs.Ops.Stack.{stackArity, stackEffect}
 use Rattle.machine.specs.Ops.Arith.{arithArity, arithEffect}
 use Rattle.machine.specs.Contexts.{above, beneath, fault, settle}
 use Rattle.machine.specs.Engine.{provided, pops, repeat, worked, tally, call, does, affected}
-use Rattle.machine.specs.Step.{effectAt, execute, executed, literalStep, begunIn, begun, ended, stepBy, dueIn, step, run}
+use Rattle.machine.specs.Step.{effectAt, execute, executed, literalStep, begunIn, begun, stepBy, dueIn, step, run}
 use Rattle.machine.proofs.Inside.{token-inside}
 use Rattle.machine.proofs.Value.{the-type}
 use Rattle.literals.specs.declared.Due.{Due}
@@ -70,7 +70,7 @@ use Rattle.engine.specs.Swift.{flat, marked, raised, Flat, stepped, Read
 use Rattle.engine.proofs.ByOrigin.{bytes-short, solid-inside}
 use Rattle.engine.proofs.Acting.{nothing-done, is-acts, by-call}
 use Rattle.engine.proofs.Level.{flat-made, flat-of}
-use Rattle.engine.proofs.Stepping.{busy-lower, plain-few, plain-done, plain-fails, step-do, goes-on, goes-back, run-last, run-both, not-ended}
+use Rattle.engine.proofs.Stepping.{busy-lower, plain-few, plain-done, plain-fails, step-do, goes-on, goes-back, run-next, run-both}
 
 -- ---- an operator that the table has is no part of the skeleton
 
@@ -136,70 +136,31 @@ flat-role n o x y e i j f = op-role n o i (flat-known o x y (rw (← j) f))
 
 -- ---- operators by number
 
-fget-op : OnFrame Fget ≡ opOf 20
+-- the operators that have functions of their own
+by-number : (OnFrame Fget ≡ opOf 20) × (OnFrame Fset ≡ opOf 21) × (OnStack Pop ≡ opOf 180) × (OnStack Dup ≡ opOf 181) × (OnStack Count ≡ opOf 188) × (OnStack Nop ≡ opOf 1) × (Calls Do ≡ opOf 231) × (Reckons Add ≡ opOf 201) × (Reckons Div ≡ opOf 204) × (Reckons Mul ≡ opOf 210) × (Reckons Sub ≡ opOf 214)
 unfolding opOf opIn operators
-fget-op = refl
-
-fset-op : OnFrame Fset ≡ opOf 21
-unfolding opOf opIn operators
-fset-op = refl
-
-pop-op : OnStack Pop ≡ opOf 180
-unfolding opOf opIn operators
-pop-op = refl
-
-dup-op : OnStack Dup ≡ opOf 181
-unfolding opOf opIn operators
-dup-op = refl
-
-count-op : OnStack Count ≡ opOf 188
-unfolding opOf opIn operators
-count-op = refl
-
-do-op : Calls Do ≡ opOf 231
-unfolding opOf opIn operators
-do-op = refl
-
-nop-op : OnStack Nop ≡ opOf 1
-unfolding opOf opIn operators
-nop-op = refl
-
-add-op : Reckons Add ≡ opOf 201
-unfolding opOf opIn operators
-add-op = refl
-
-div-op : Reckons Div ≡ opOf 204
-unfolding opOf opIn operators
-div-op = refl
-
-mul-op : Reckons Mul ≡ opOf 210
-unfolding opOf opIn operators
-mul-op = refl
-
-sub-op : Reckons Sub ≡ opOf 214
-unfolding opOf opIn operators
-sub-op = refl
+by-number = (refl, refl, refl, refl, refl, refl, refl, refl, refl, refl, refl)
 
 -- ADD, DIV, MUL, SUB
 module _ (n : ℕ) where
   pub is-add : n ≡ 201 → (Reckons Add ≡ opOf n) × (2 ≡ arityOf (Reckons Add))
   unfolding arityOf arithArity
-  is-add e = (rw e add-op, refl)
+  is-add e = (rw e (by-number .7), refl)
 
   pub is-div : n ≡ 204 → (Reckons Div ≡ opOf n) × (2 ≡ arityOf (Reckons Div))
   unfolding arityOf arithArity
-  is-div e = (rw e div-op, refl)
+  is-div e = (rw e (by-number .8), refl)
 
   pub is-mul : n ≡ 210 → (Reckons Mul ≡ opOf n) × (2 ≡ arityOf (Reckons Mul))
   unfolding arityOf arithArity
-  is-mul e = (rw e mul-op, refl)
+  is-mul e = (rw e (by-number .9), refl)
 
   pub is-sub : OneOf (201 ∷ 204 ∷ 210 ∷ 214 ∷ []) n → (n ≡ 201 → ⊥) → (n ≡ 204 → ⊥) → (n ≡ 210 → ⊥) → (Reckons Sub ≡ opOf n) × (2 ≡ arityOf (Reckons Sub))
   unfolding arityOf arithArity
   is-sub (inl e) f g h = absurd (f e)
   is-sub (inr (inl e)) f g h = absurd (g e)
   is-sub (inr (inr (inl e))) f g h = absurd (h e)
-  is-sub (inr (inr (inr e))) f g h = (rw e sub-op, refl)
+  is-sub (inr (inr (inr e))) f g h = (rw e (by-number .10), refl)
 
 -- ---- what they do
 
@@ -225,31 +186,15 @@ pop-effect : (x y : Value) → Acts (Works Nothing) ≡ effectOf (OnStack Pop) x
 unfolding effectOf stackEffect
 pop-effect x y = refl
 
--- operators that pop nothing before the engine's part
+-- DUP, COUNT and NOP pop nothing before the engine's part
+pops-none : (popped (Plain 181) ≡ 0) × (popped (Plain 188) ≡ 0) × (popped (Plain 1) ≡ 0)
+unfolding popped opOf opIn operators arityOf stackArity
+pops-none = (refl, refl, refl)
 
-dup-none : popped (Plain 181) ≡ 0
-unfolding popped stackArity arityOf
-dup-none = rw (← dup-op)
-
-dup-effect : (x y : Value) → performed (Plain 181) x y ≡ Acts (Works (Repeat 1))
-unfolding performed effectOf stackEffect
-dup-effect x y = rw (← dup-op)
-
-count-none : popped (Plain 188) ≡ 0
-unfolding popped stackArity arityOf
-count-none = rw (← count-op)
-
-count-effect : (x y : Value) → performed (Plain 188) x y ≡ Acts Tally
-unfolding performed effectOf stackEffect
-count-effect x y = rw (← count-op)
-
-nop-none : popped (Plain 1) ≡ 0
-unfolding popped stackArity arityOf
-nop-none = rw (← nop-op)
-
-nop-effect : (x y : Value) → performed (Plain 1) x y ≡ Acts (Works Nothing)
-unfolding performed effectOf stackEffect
-nop-effect x y = rw (← nop-op)
+-- which is this
+own-part : (x y : Value) → (performed (Plain 181) x y ≡ Acts (Works (Repeat 1))) × (performed (Plain 188) x y ≡ Acts Tally) × (performed (Plain 1) x y ≡ Acts (Works Nothing))
+unfolding performed opOf opIn operators effectOf stackEffect
+own-part x y = (refl, refl, refl)
 
 once-flat : (n : ℕ) (e : Effect) → ((x y : Value) → performed (Plain n) x y ≡ e) → (s : State) → flat e ≡ true → flat (effectAt (Plain n) s) ≡ true
 unfolding effectAt
@@ -279,41 +224,41 @@ module _ {w w′ : List ℕ} {r : Registers} (code : Code) where
     pub is-dup : n ≡ 181 → Tried (repeat 1) w r w′ p → Flat (execute code (Plain n)) w r w′ h × (h ≤ 128 → roleOf n ≡ role.Plain)
     is-dup e t =
         rw e
-        (flat-of code (Plain 181) (once-flat 181 (Acts (Works (Repeat 1))) dup-effect (abs w r) refl) h p a (at-once 181 (Acts (Works (Repeat 1))) dup-none dup-effect (repeats t)), λ _. op-role 181 (OnStack Dup) dup-op refl)
+        (flat-of code (Plain 181) (once-flat 181 (Acts (Works (Repeat 1))) (λ x y. own-part x y .0) (abs w r) refl) h p a (at-once 181 (Acts (Works (Repeat 1))) (pops-none .0) (λ x y. own-part x y .0) (repeats t)), λ _. op-role 181 (OnStack Dup) (by-number .3) refl)
 
     pub is-count : n ≡ 188 → Tried tally w r w′ p → Flat (execute code (Plain n)) w r w′ h × (h ≤ 128 → roleOf n ≡ role.Plain)
     is-count e t =
         rw e
-        (flat-of code (Plain 188) (once-flat 188 (Acts Tally) count-effect (abs w r) refl) h p a (at-once 188 (Acts Tally) count-none count-effect (tallies t)), λ _. op-role 188 (OnStack Count) count-op refl)
+        (flat-of code (Plain 188) (once-flat 188 (Acts Tally) (λ x y. own-part x y .1) (abs w r) refl) h p a (at-once 188 (Acts Tally) (pops-none .1) (λ x y. own-part x y .1) (tallies t)), λ _. op-role 188 (OnStack Count) (by-number .4) refl)
 
 -- values popped, the height that is left
 pub pop-flat : {w : List ℕ} {r : Registers} (code : Code) (t : Tops) → Busy w r → Topmost (above (stackOf (slots w) (r .height))) t → 1 ≤ t .count → 1 ≤ r .height → Flat (execute code (Plain 180)) w r w (r .height - 1)
 unfolding effectAt performed
 pop-flat {w} {r} code t g et h k =
     let q = trying r (r .height - 1) (r .depth) (r .used) (r .ok) in
-    flat-made code (Plain 180) (rw (← pop-op) (ap flat (sym (pop-effect _ _)))) (r .height - 1) (omega arith)
-    (plain-done code 180 1 (OnStack Pop) t g pop-op pop-one et (valueIn (t .first)) (valueIn (t .second)) (Acts (Works Nothing)) h refl refl (pop-effect (valueIn (t .first)) (valueIn (t .second))) refl
+    flat-made code (Plain 180) (rw (← (by-number .2)) (ap flat (sym (pop-effect _ _)))) (r .height - 1) (omega arith)
+    (plain-done code 180 1 (OnStack Pop) t g (by-number .2) pop-one et (valueIn (t .first)) (valueIn (t .second)) (Acts (Works Nothing)) h refl refl (pop-effect (valueIn (t .first)) (valueIn (t .second))) refl
     (rests code (nothing-done code (busy-lower 1 g refl) refl)))
 
 pub is-nop : {w : List ℕ} {r : Registers} (code : Code) (n : ℕ) → Busy w r → n ≡ 1 → Flat (execute code (Plain n)) w r w (r .height) × (r .height ≤ 128 → roleOf n ≡ role.Plain)
 is-nop {w} {r} code n g e =
     rw e
-    (flat-made code (Plain 1) (once-flat 1 (Acts (Works Nothing)) nop-effect (abs w r) refl) (r .height) (g .stack-fits) (at-once code 1 (Acts (Works Nothing)) nop-none nop-effect (rests code (nothing-done code g refl))), λ _. op-role 1 (OnStack Nop) nop-op refl)
+    (flat-made code (Plain 1) (once-flat 1 (Acts (Works Nothing)) (λ x y. own-part x y .2) (abs w r) refl) (r .height) (g .stack-fits) (at-once code 1 (Acts (Works Nothing)) (pops-none .2) (λ x y. own-part x y .2) (rests code (nothing-done code g refl))), λ _. op-role 1 (OnStack Nop) (by-number .5) refl)
 
 -- the others by number
 module _ {w w′ : List ℕ} {r : Registers} (code : Code) (n h : ℕ) where
   pub is-pop : n ≡ 180 → Flat (execute code (Plain 180)) w r w′ h → Flat (execute code (Plain n)) w r w′ h × (h ≤ 128 → roleOf n ≡ role.Plain)
-  is-pop e t = rw e (t, λ _. op-role 180 (OnStack Pop) pop-op refl)
+  is-pop e t = rw e (t, λ _. op-role 180 (OnStack Pop) (by-number .2) refl)
 
   module _ (o : Op) (k : known o ≡ true) (t : (c : Code) (m : ℕ) → o ≡ opOf m → Flat (execute c (Plain m)) w r w′ h) where
     by-op : o ≡ opOf n → Flat (execute code (Plain n)) w r w′ h × (h ≤ 128 → roleOf n ≡ role.Plain)
     by-op e = (t code n e, λ _. op-role n o e k)
 
   pub is-fget : n ≡ 20 → ((c : Code) (m : ℕ) → OnFrame Fget ≡ opOf m → Flat (execute c (Plain m)) w r w′ h) → Flat (execute code (Plain n)) w r w′ h × (h ≤ 128 → roleOf n ≡ role.Plain)
-  is-fget e t = by-op (OnFrame Fget) refl t (rw e fget-op)
+  is-fget e t = by-op (OnFrame Fget) refl t (rw e (by-number .0))
 
   pub is-fset : n ≡ 21 → ((c : Code) (m : ℕ) → OnFrame Fset ≡ opOf m → Flat (execute c (Plain m)) w r w′ h) → Flat (execute code (Plain n)) w r w′ h × (h ≤ 128 → roleOf n ≡ role.Plain)
-  is-fset e t = by-op (OnFrame Fset) refl t (rw e fset-op)
+  is-fset e t = by-op (OnFrame Fset) refl t (rw e (by-number .1))
 
   pub is-reckon : (o : ArithOp) → Reckons o ≡ opOf n → ((c : Code) (m : ℕ) → Reckons o ≡ opOf m → Flat (execute c (Plain m)) w r w′ h) → Flat (execute code (Plain n)) w r w′ h × (h ≤ 128 → roleOf n ≡ role.Plain)
   is-reckon o e t = by-op (Reckons o) refl t e
@@ -356,7 +301,7 @@ found-due f d x i e = λ k. record { literal = (sym (i .literal) ∙ e) k; next 
 
 pub found-do : (b : List ℕ) (at : ℕ) (f : Form) (n next past : ℕ) → Shows b at f → f ≡ form.Operator n next → n ≡ 231 → past ≡ solid b next → length b ≤ 16777215 → PastDo b at past × (past ≤ 16777215)
 found-do b at f n next past shows e en ep l =
-    (λ h. found-operator b at f shows 231 next past (rw en at e) ep (op-role 231 (Calls Do) do-op refl), omega (arith, ep, solid-inside b next (operator-inside b at f shows n next e)))
+    (λ h. found-operator b at f shows 231 next past (rw en at e) ep (op-role 231 (Calls Do) (by-number .6) refl), omega (arith, ep, solid-inside b next (operator-inside b at f shows n next e)))
 
 -- ---- a step but for the end of bodies
 
@@ -437,16 +382,16 @@ do-call o s l f x y e = rw e
 
 module _ {w : List ℕ} {r : Registers} (code : Code) (t : Tops) (g : Busy w r) (et : Topmost (above (stackOf (slots w) (r .height))) t) where
   pub do-few : {r′ : Registers} → t .count < 1 → r′ ≡ failed r → Tried (execute code (Plain 231)) w r w r′
-  do-few {r′} h q = plain-few code 231 1 (Calls Do) t g do-op do-one et h q
+  do-few {r′} h q = plain-few code 231 1 (Calls Do) t g (by-number .6) do-one et h q
 
   module _ (h : 1 ≤ t .count) (x : Value) (ex : x ≡ valueIn (t .first)) where
     pub do-made : {w′ : List ℕ} {q r′ : Registers} (o s l f : ℕ) → x ≡ Operator o s l f → q ≡ trying r (r .height - 1) (r .depth) (r .used) (r .ok) → Tried (call code o s l f) w q w′ r′ → Tried (execute code (Plain 231)) w r w′ r′
     do-made {w′} {q} {r′} o s l f e eq d =
-        plain-done code 231 1 (Calls Do) t g do-op do-one et x (valueIn (t .second)) (Acts (Call o s l f)) h ex refl (do-call o s l f x (valueIn (t .second)) e) eq (is-acts code (Acts (Call o s l f)) (Call o s l f) refl (by-call code (Call o s l f) o s l f refl d))
+        plain-done code 231 1 (Calls Do) t g (by-number .6) do-one et x (valueIn (t .second)) (Acts (Call o s l f)) h ex refl (do-call o s l f x (valueIn (t .second)) e) eq (is-acts code (Acts (Call o s l f)) (Call o s l f) refl (by-call code (Call o s l f) o s l f refl d))
 
     pub do-fails : {r′ : Registers} → OneOf (0 ∷ 1 ∷ 2 ∷ []) (tagOf the-type x) → r′ ≡ failed r → Tried (execute code (Plain 231)) w r w r′
     do-fails {r′} bad q =
-        plain-fails code 231 1 (Calls Do) t g do-op do-one et x (valueIn (t .second)) h ex refl (no-operator x (valueIn (t .second)) bad) q
+        plain-fails code 231 1 (Calls Do) t g (by-number .6) do-one et x (valueIn (t .second)) h ex refl (no-operator x (valueIn (t .second)) bad) q
 
 module _ {w w₁ : List ℕ} {r q : Registers} (pre body b : List ℕ) (c : Place) (at past n : ℕ)
     (here : (c .origin ≡ running (contextsOf (slots w) (r .depth)) .origin) × (c .start ≡ running (contextsOf (slots w) (r .depth)) .at)) (eb : b ≡ bytesOf (both pre body) (c .origin)) (ea : at ≡ c .start)
@@ -509,8 +454,7 @@ module _ (code : Code) (w₀ w : List ℕ) (r₀ r : Registers) (most left : ℕ
     one-more : run (most - (left - 1)) code (abs w₀ r₀) ≡ settle (abs w′ (stepped r h))
     one-more =
         let z : most - (left - 1) ≡ suc (most - left) = omega arith in
-        let alive : ended (run (most - left) code (abs w₀ r₀) .contexts) ≡ false = rw inv (not-ended (slots w) (r .depth) runs) in
-        rw (z, run-last code (most - left) (abs w₀ r₀) alive, inv) (sym (t .does fits))
+        rw (z, run-next code (most - left) (abs w₀ r₀) w r inv runs) (sym (t .does fits))
 
     pub sprint-on : (r′ : Registers) → r′ ≡ record { height = h; depth = r .depth; used = r .used; steps = r .steps + 1; errors = r .errors; skipping = false; ok = r .ok } → Done settle w′ (stepped r h) w′ r′
         → run (most - (left - 1)) code (abs w₀ r₀) ≡ abs w′ (stepped r h)
@@ -546,22 +490,18 @@ module _ {code : Code} {w w₁ : List ℕ} {r q : Registers} (most : ℕ) (t : S
     pub onward-step : {w′ : List ℕ} {r′ : Registers} → q .steps < r .steps + most → abs w′ r′ ≡ step code (abs w₁ q) → Good w′ r′ → aside w′ ≡ aside w₁ → r′ .steps ≡ q .steps + 1 → Onward code most w r w′ r′
     onward-step {w′} {r′} k e g same n =
         let z : r′ .steps - r .steps ≡ suc (q .steps - r .steps) = omega (arith, n, t .since) in
-        let alive : ended (run (q .steps - r .steps) code (abs w r) .contexts) ≡ false = rw (t .does o) (not-ended (slots w₁) (q .depth) (t .runs)) in
-        record { good = g; does = e ∙ (rw (z, run-last code (q .steps - r .steps) (abs w r) alive, t .does o)); keeps = same ∙ t .keeps; some = omega (arith, n, t .since); within = omega (arith, n) }
+        record { good = g; does = e ∙ (rw (z, run-next code (q .steps - r .steps) (abs w r) w₁ q (t .does o) (t .runs))); keeps = same ∙ t .keeps; some = omega (arith, n, t .since); within = omega (arith, n) }
 
 -- a step after others
 module _ (pre body w₀ w : List ℕ) (r₀ r : Registers) (most left : ℕ) (runs : 0 < r .depth) (few : left ≤ most) (sum : r .steps + left ≡ r₀ .steps + most) (same : aside w ≡ aside w₀)
     (inv : run (most - left) (both pre body) (abs w₀ r₀) ≡ abs w r) where
   module _ {w′ : List ℕ} {r′ : Registers} (h : 0 < left) (d : Stepped pre body w r w′ r′) where
-    alive : ended (run (most - left) (both pre body) (abs w₀ r₀) .contexts) ≡ false
-    alive = rw inv (not-ended (slots w) (r .depth) runs)
-
     pub after-step : Onward (both pre body) most w₀ r₀ w′ r′
     after-step =
         let z : r′ .steps - r₀ .steps ≡ suc (most - left) = omega (arith, d .counted) in
         record {
           good = d .good;
-          does = d .does ∙ (rw (z, run-last (both pre body) (most - left) (abs w₀ r₀) alive, inv));
+          does = d .does ∙ (rw (z, run-next (both pre body) (most - left) (abs w₀ r₀) w r inv runs));
           keeps = d .keeps ∙ same;
           some = omega (arith, d .counted);
           within = omega (arith, d .counted);
@@ -570,7 +510,7 @@ module _ (pre body w₀ w : List ℕ) (r₀ r : Registers) (most left : ℕ) (ru
     pub after-inv : run (most - (left - 1)) (both pre body) (abs w₀ r₀) ≡ abs w′ r′
     after-inv =
         let z : most - (left - 1) ≡ suc (most - left) = omega arith in
-        rw (z, run-last (both pre body) (most - left) (abs w₀ r₀) alive, inv) (sym (d .does))
+        rw (z, run-next (both pre body) (most - left) (abs w₀ r₀) w r inv runs) (sym (d .does))
 
   pub after-all : Good w r → 0 < most → left ≤ 0 → Onward (both pre body) most w₀ r₀ w r
   after-all g h l =

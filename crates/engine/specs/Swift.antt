@@ -62,7 +62,7 @@ marked w height = length (beneath (stackOf (slots w) height))
 abbrev pub raised : Registers → ℕ → Registers
 raised r h = record { height = h; depth = r .depth; used = r .used; steps = r .steps; errors = r .errors; skipping = r .skipping; ok = true }
 
--- within a step
+-- what means f done within a step: it leaves the stack h high, and marks no higher than before
 pub record Flat (f : State → Option State) (w : List ℕ) (r : Registers) (w′ : List ℕ) (h : ℕ) : Type 0 where
   pub made : h ≤ mostEntries → Tried f w r w′ (raised r h)
   pub low : h ≤ mostEntries → marked w′ h ≤ marked w (r .height)
