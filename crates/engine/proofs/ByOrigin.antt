@@ -2,7 +2,7 @@
 use Prim.Native.Nat.{ℕ, zero, suc, _<_, _≤_}
 use native.Mathlib.Omega.{arith}
 use mathlib.Core.Path.{_≡_, refl}
-use mathlib.Core.Logic.{_⊎_, inl, inr, ⊎-elim}
+use mathlib.Core.Logic.{⊎-elim}
 use mathlib.Core.List.{List, [], _∷_}
 use lib.ListN.{length}
 use Rattle.tokens.specs.declared.Read.{Read}
@@ -18,9 +18,11 @@ use Rattle.machine.specs.Limits.{mostOpen}
 use Rattle.machine.specs.Skeleton.{roleOf, solid, bodyAt}
 use Rattle.machine.specs.Literal.{bytesOf, nothingAt, holdingBy, holdingAt, operatorBy, foundBy, foundAt}
 use Rattle.machine.proofs.Inside.{EndsIn, token-inside, WentIn, went-lower, body-later}
-use Rattle.machine.proofs.Comments.{Comments, none-at, one-at, comments-are}
+use Rattle.machine.proofs.Comments.{comments-are}
+use Rattle.literals.specs.declared.Ahead.{Ahead}
 use Rattle.literals.specs.declared.Due.{Due}
-use Rattle.literals.specs.Dues.{Is}
+use Rattle.literals.specs.Dues.{Is, Passes}
+use Rattle.literals.proofs.Passing.{comments-end, solid-inside}
 use Rattle.state.specs.declared.Place.{Place}
 use Rattle.literals.specs.Names.{both}
 use Rattle.engine.specs.Bodies.{Short}
@@ -43,20 +45,10 @@ empty (b ∷ d) e = absurd (omega arith)
 
 -- ---- a place past comments fits where the place and the bytes do
 
-comments-end : (s : List ℕ) (at q : ℕ) → Comments s at q → (q ≡ at) ⊎ (q ≤ length s)
-comments-end s at q (none-at h) = inl refl
-comments-end s at q (one-at {next = next} h c) =
-    let g : (at < next) × (next ≤ length s) = rw h at (token-inside s at) in
-    let g1 : next ≤ length s = g .1 in
-    inr (⊎-elim (λ e. omega arith) (λ l. l) (comments-end s next q c))
-
 solid-fits : (s : List ℕ) (at m : ℕ) → at < m → length s < m → solid s at < m
 solid-fits s at m h l = ⊎-elim (λ e. omega arith) (λ k. omega arith) (comments-end s at (solid s at) (comments-are s at))
 
 -- ---- where the next literal stands is inside the bytes
-
-pub solid-inside : (s : List ℕ) (at : ℕ) → at ≤ length s → solid s at ≤ length s
-solid-inside s at h = ⊎-elim (λ e. omega arith) (λ k. k) (comments-end s at (solid s at) (comments-are s at))
 
 went-next : (b : List ℕ) (n start : ℕ) (w : Went) → WentIn (length b) 0 w → holdingBy b n start w .next ≤ length b
 unfolding holdingBy nothingAt
@@ -97,6 +89,9 @@ ends-fit pre body b o eb short = rw eb (bytes-short pre body o short)
 
 pub due-fits : (b : List ℕ) (at : ℕ) (d : Due) → length b ≤ 16777215 → Is (foundAt b at) d → d .next < 4294967296
 due-fits b at d l i = omega (arith, i .next, next-inside b at)
+
+pub ahead-fits : (b : List ℕ) (at : ℕ) (a : Ahead) → length b ≤ 16777215 → Passes (foundAt b at) a → a .next < 4294967296
+ahead-fits b at a l p = omega (arith, p .next, next-inside b at)
 
 -- the literal that is due in the running body, whose bytes are b
 pub due-here : (pre body b : List ℕ) (c : Place) (at : ℕ) (d : Due) → b ≡ bytesOf (both pre body) (c .origin) → at ≡ c .start → Is (foundAt b at) d → Is (foundAt (bytesOf (both pre body) (c .origin)) (c .start)) d

@@ -27,7 +27,37 @@ use Rattle.state.specs.declared.Registers.{Registers}
 use Rattle.state.specs.Layout.{stackOf, abs, answer, Tried}
 use Rattle.state.proofs.Parts.{length-stack, length-contexts, length-values}
 use Rattle.state.proofs.Ending.{not-on}
-use Rattle.engine.specs.Swift.{flatWork, flatNext, flat, raised, Flat}
+use Rattle.engine.specs.Swift.{raised, Flat}
+
+-- ---- effects that make no cells, enter no body and place no mark
+
+abbrev flatWork : Work → Bool
+flatWork Nothing = true
+flatWork (Fetch j) = true
+flatWork (Element cell) = true
+flatWork (Build lower n) = false
+flatWork (Spell start) = false
+flatWork (Utter start len) = true
+flatWork (Compose start len) = false
+flatWork (Repeat n) = true
+flatWork (Turn n m) = true
+flatWork (Match v u) = true
+flatWork (Report v) = true
+
+abbrev flatNext : Next → Bool
+flatNext (Works x) = flatWork x
+flatNext (Inline start len owes) = false
+flatNext (Call origin start len first) = false
+flatNext (Store j) = true
+flatNext (Place n) = false
+flatNext (Remove n) = true
+flatNext Tally = true
+
+abbrev pub flat : Effect → Bool
+flat Fail = false
+flat (Gives a) = true
+flat (Gives2 a b) = true
+flat (Acts x) = flatNext x
 
 -- ---- the stack from its topmost mark on down
 

@@ -3,7 +3,7 @@ use Prim.Native.Nat.{ℕ, zero, suc, _+_, _-_, _≤_, _<_}
 use native.Mathlib.Nat.{mod-lt}
 use native.Mathlib.Omega.{arith}
 use mathlib.Core.Path.{_≡_, refl, sym, ap, _∙_}
-use mathlib.Core.Bool.{Bool, true, false, cond, not, _&&_}
+use mathlib.Core.Bool.{Bool, true, false, cond, and-false}
 use mathlib.Core.List.{List, [], _∷_}
 use mathlib.Core.Option.{Option}
 use borrow.Author.Tests.{le-leb, lt-leb}
@@ -22,16 +22,17 @@ use Rattle.machine.specs.declared.Literal.{Literal}
 use Rattle.machine.specs.declared.Literal.the-variants.{Figure, Name, Text, Plain, WithBody}
 use Rattle.machine.specs.declared.Effect.{Effect}
 use Rattle.machine.specs.declared.Effect.the-variants.{Fail}
-use Rattle.machine.specs.State.{State, running}
+use Rattle.machine.specs.State.{Entry, val, mark, Context, State, running}
 use Rattle.machine.specs.Literal.{Code, bytesOf, foundAt}
 use Rattle.machine.specs.Operators.{opOf, bodyOpOf, arityOf, effectOf, popped, performed}
 use Rattle.machine.specs.Ops.Control.{bodyArity, bodyEffect}
-use Rattle.machine.specs.Contexts.{above, fault, settle, skipped}
+use Rattle.machine.specs.Contexts.{above, atEnd, from, Spot, landedAt, landed, recover, skipAt, skippedIn, skipped}
 use Rattle.machine.specs.Engine.{provided, values, pops, push, spell, worked, does, affected}
-use Rattle.machine.specs.Step.{effectAt, execute, executed, isUnmark0, literalStep, ended, stepBy, dueIn, step, run}
+use Rattle.machine.specs.Step.{effectAt, execute, literalStep, ended, stepBy, dueIn, step, run}
 use Rattle.machine.proofs.Inside.{HeldIn, found-inside}
+use Rattle.literals.specs.declared.Ahead.{Ahead}
 use Rattle.literals.specs.declared.Due.{Due}
-use Rattle.literals.specs.Dues.{Is}
+use Rattle.literals.specs.Dues.{Is, Passes}
 use Rattle.literals.specs.Names.{both}
 use Rattle.operators.specs.Sizes.{Small}
 use Rattle.state.specs.declared.Place.{Place}
@@ -44,11 +45,11 @@ use Rattle.state.proofs.Cutting.{over-above}
 use Rattle.state.proofs.Trying.{trying, failed, tried-no, tried-as, tried-from, pops-is}
 use Rattle.state.proofs.Stacking.{above-few}
 use Rattle.state.proofs.Ending.{not-on}
-use Rattle.engine.specs.Swift.{flat, Flat}
-use Rattle.engine.specs.Bodies.{Short, SizedLiteral, performs, Stepped}
+use Rattle.engine.specs.Swift.{Flat, Executes}
+use Rattle.engine.specs.Bodies.{Short, SizedLiteral, Stepped}
 use Rattle.engine.proofs.ByOrigin.{bytes-short}
 use Rattle.engine.proofs.Acting.{is-fail}
-use Rattle.engine.proofs.Level.{flat-of}
+use Rattle.engine.proofs.Level.{flat, flat-of}
 
 -- ---- the values that an operator reads
 
@@ -165,50 +166,6 @@ module _ {w w′ : List ℕ} {r r′ : Registers} (code : Code) (x : Literal) wh
 pub sized-holder : (x : Literal) (n s l : ℕ) → SizedLiteral x → x ≡ WithBody n s l → s + l < 4294967296
 sized-holder x n s l h e = rw e at h
 
--- ---- what follows
-
-pub back-good : {f : State → Option State} {w w₁ : List ℕ} {r q : Registers} → Busy w r → Tried f w r w₁ q → q .ok ≡ false → Good w₁ r
-back-good g t n = rw (t .back n) (omega arith)
-
-module _ {w w₁ w′ : List ℕ} {r q r′ : Registers} (code : Code) (x : Literal) (g : Busy w r) (t : Tried (execute code x) w r w₁ q) where
-  pub goes-on : q .ok ≡ true → Done settle w₁ q w′ r′ → Done (performs code x) w r w′ r′
-  unfolding performs executed answer
-  goes-on o d = record { good = d .good; does = d .does ∙ (rw (← (t .does), o)); keeps = d .keeps ∙ t .keeps; counted = d .counted ∙ t .counted }
-
-  pub goes-back : q .ok ≡ false → Done fault w₁ r w′ r′ → Done (performs code x) w r w′ r′
-  unfolding performs executed answer
-  goes-back o d = record { good = d .good; does = (rw (t .back o) at (d .does)) ∙ (rw (← (t .does), o)); keeps = d .keeps ∙ t .keeps; counted = d .counted }
-
--- ---- passed over
-
-pub pass-off : (b : Bool) (x : Literal) → b ≡ false → false ≡ b && not (isUnmark0 x)
-pass-off b x e = rw e
-
-module _ (b : Bool) (x : Literal) (on : b ≡ true) where
-  pub pass-figure : (a : num.Number) → x ≡ Figure a → true ≡ b && not (isUnmark0 x)
-  unfolding isUnmark0
-  pass-figure a e = rw (on, e)
-
-  pub pass-name : (s l : ℕ) → x ≡ Name s l → true ≡ b && not (isUnmark0 x)
-  unfolding isUnmark0
-  pass-name s l e = rw (on, e)
-
-  pub pass-text : (s : ℕ) → x ≡ Text s → true ≡ b && not (isUnmark0 x)
-  unfolding isUnmark0
-  pass-text s e = rw (on, e)
-
-  pub pass-plain : (n : ℕ) → x ≡ Plain n → not (eqb n 192) ≡ b && not (isUnmark0 x)
-  unfolding isUnmark0
-  pass-plain n e = rw (on, e)
-
-  pub pass-holder : (n s l : ℕ) → x ≡ WithBody n s l → true ≡ b && not (isUnmark0 x)
-  unfolding isUnmark0
-  pass-holder n s l e = rw (on, e)
-
-pub pass-skips : (b s : Bool) (x : Literal) → b ≡ s && not (isUnmark0 x) → b ≡ true → s ≡ true
-pass-skips b true x e t = refl
-pass-skips b false x e t = sym e ∙ t
-
 -- ---- a step
 
 -- the literal that is due holds a body whose end is a word
@@ -225,22 +182,55 @@ sized-due b at d h i = rw (i .literal) (sized (foundAt b at .literal) (length b)
 pub sized-here : (pre body : List ℕ) (o at : ℕ) (d : Due) → Short pre body → Is (foundAt (bytesOf (both pre body) o) at) d → SizedLiteral (d .literal)
 sized-here pre body o at d h i = sized-due (bytesOf (both pre body) o) at d (bytes-short pre body o h) i
 
-module _ {w w₁ : List ℕ} {r q : Registers} (pre body : List ℕ) (c : Place) (d : Due) (n : ℕ) (b : Bool)
-    (here : (c .origin ≡ running (contextsOf (slots w) (r .depth)) .origin) × (c .start ≡ running (contextsOf (slots w) (r .depth)) .at))
-    (due : Is (foundAt (bytesOf (both pre body) (c .origin)) (c .start)) d) (en : n ≡ d .next) (be : Begun n w r w₁ q) (eb : b ≡ q .skipping && not (isUnmark0 (d .literal))) where
-  is-step : step (both pre body) (abs w r) ≡ literalStep (both pre body) b (d .literal) (abs w₁ q)
-  unfolding step stepBy dueIn
-  is-step =
-      let s : b ≡ r .skipping && not (isUnmark0 (d .literal)) = eb ∙ ap (λ (x : Bool). x && not (isUnmark0 (d .literal))) (be .skips) in
-      rw (← (here .0), ← (here .1), ← (due .literal), ← (due .next), ← en, ← (be .does), ← s)
+-- the running context stands at this depth
+pub here-at : (w : List ℕ) (r : Registers) (c : Place) (depth : ℕ) → r .depth ≡ depth → (c .origin ≡ running (contextsOf (slots w) depth) .origin) × (c .start ≡ running (contextsOf (slots w) depth) .at) → (c .origin ≡ running (contextsOf (slots w) (r .depth)) .origin) × (c .start ≡ running (contextsOf (slots w) (r .depth)) .at)
+here-at w r c depth e h = rw e h
 
-  pub step-skip : {w′ : List ℕ} {r′ : Registers} → b ≡ true → Done skipped w₁ q w′ r′ → Stepped pre body w r w′ r′
-  unfolding literalStep
-  step-skip {w′} {r′} t z = record { good = z .good; does = z .does ∙ sym (rw t at is-step); keeps = z .keeps ∙ be .keeps; counted = z .counted ∙ be .counted }
+-- a literal passed over
+module _ (w : List ℕ) (r : Registers) (pre body b : List ℕ) (c : Place) (at n : ℕ) (a : Ahead)
+    (here : (c .origin ≡ running (contextsOf (slots w) (r .depth)) .origin) × (c .start ≡ running (contextsOf (slots w) (r .depth)) .at)) (eb : b ≡ bytesOf (both pre body) (c .origin)) (ea : at ≡ c .start)
+    (p : Passes (foundAt b at) a) where
+  -- it is UNMARK0
+  pub unmark-due : a .unmarks ≡ true → Executes (both pre body) (abs w r)
+  unfolding dueIn
+  unmark-due u = rw (← (here .0), ← (here .1), ← eb, ← ea, ← (p .unmarks), u) (and-false (r .skipping))
 
-  pub step-do : {w′ : List ℕ} {r′ : Registers} → b ≡ false → Done (performs (both pre body) (d .literal)) w₁ q w′ r′ → Stepped pre body w r w′ r′
-  unfolding literalStep performs
-  step-do {w′} {r′} t z = record { good = z .good; does = z .does ∙ sym (rw t at is-step); keeps = z .keeps ∙ be .keeps; counted = z .counted ∙ be .counted }
+  pub skip-step : {w₁ w′ : List ℕ} {q r′ : Registers} → a .unmarks ≡ false → n ≡ a .next → Begun n w r w₁ q → r .skipping ≡ true → Done skipped w₁ q w′ r′ → Stepped pre body w r w′ r′
+  unfolding step stepBy dueIn literalStep
+  skip-step {w₁} {w′} {q} {r′} u en be on d =
+      let z : step (both pre body) (abs w r) ≡ skipped (abs w₁ q) = rw (← (here .0), ← (here .1), ← eb, ← ea, ← (p .next), ← en, ← (be .does), on, ← (p .unmarks), u) in
+      record { good = d .good; does = d .does ∙ sym z; keeps = d .keeps ∙ be .keeps; counted = d .counted ∙ be .counted }
+
+-- skipping goes on
+landed-skips : (k : ℕ) (s : List Entry) (cs rest : List Context) (again : List Context → Spot) → ((l : List Context) → again l .skipping ≡ true) → landed k s cs rest again .skipping ≡ true
+unfolding landed landedAt
+landed-skips k s cs [] again h = h cs
+landed-skips k s cs (c ∷ rest) again h = by-end (atEnd c)
+  where
+    by-end : (b : Bool) → landedAt b k s c rest again .skipping ≡ true
+    by-end true = h rest
+    by-end false = refl
+
+recover-skips : (s : List Entry) (cs : List Context) → recover s cs .skipping ≡ true
+unfolding recover
+recover-skips [] cs = refl
+recover-skips (val v ∷ s) cs = recover-skips s cs
+recover-skips (mark k ∷ s) cs = landed-skips k s cs (from k cs) (recover s) (λ l. recover-skips s l)
+
+skips-on : (s : State) → s .skipping ≡ true → skipped s .skipping ≡ true
+unfolding skipped skippedIn skipAt
+skips-on s h = by-contexts (s .contexts)
+  where
+    by-end : (b : Bool) (c : Context) (cs : List Context) → skipAt b (s .stack) c cs .skipping ≡ true
+    by-end true c cs = recover-skips (s .stack) cs
+    by-end false c cs = refl
+
+    by-contexts : (l : List Context) → skippedIn s l .skipping ≡ true
+    by-contexts [] = h
+    by-contexts (c ∷ cs) = by-end (atEnd c) c cs
+
+pub still-skips : {w w′ : List ℕ} {q r′ : Registers} → Done skipped w q w′ r′ → q .skipping ≡ true → r′ .skipping ≡ true
+still-skips {w} {w′} {q} {r′} d h = ap (λ (s : State). s .skipping) (d .does) ∙ skips-on (abs w q) h
 
 -- ---- a run
 

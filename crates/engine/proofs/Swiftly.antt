@@ -2,14 +2,14 @@
 use Prim.Native.Nat.{ℕ, suc, _+_, _-_, _≤_, _<_}
 use native.Mathlib.Omega.{arith}
 use mathlib.Core.Path.{_≡_, refl, sym, ap, _∙_}
-use mathlib.Core.Bool.{Bool, true, false, cond, _||_}
+use mathlib.Core.Bool.{Bool, true, false, cond, not, _&&_, _||_}
 use mathlib.Core.Logic.{inl, inr}
 use mathlib.Core.List.{List, [], _∷_}
-use mathlib.Core.Option.{some}
+use mathlib.Core.Option.{Option, none, some}
 use types.Run.{OneOf}
 use denote.Enum.Declared.{tagOf}
-use borrow.Author.Tests.{le-leb, eqb-true}
-use lib.Dec.{eqb}
+use borrow.Author.Tests.{le-leb, eqb-true, ltb-true, ltb-false}
+use lib.Dec.{eqb, ltb}
 use lib.IntN.{pos, _-ℤ_}
 use lib.ListN.{length, getD}
 use Rattle.numbers.specs.declared.Number as num
@@ -28,14 +28,15 @@ use Rattle.machine.specs.declared.Literal.{Literal}
 use Rattle.machine.specs.declared.Literal.the-variants.{Figure, Name, Plain}
 use Rattle.machine.specs.declared.Effect.{Effect}
 use Rattle.machine.specs.declared.Effect.the-variants.{Fail, Acts}
-use Rattle.machine.specs.declared.Next.the-variants.{Works, Call, Tally}
+use Rattle.machine.specs.declared.Next.the-variants.{Works, Call, Remove, Tally}
+use Rattle.machine.specs.declared.Next.the-variants as part
 use Rattle.machine.specs.declared.Work.the-variants.{Nothing, Repeat}
 use Rattle.machine.specs.declared.Op.{Op}
 use Rattle.machine.specs.declared.Op.the-variants.{OnVectors, OnFrame, Calls, OnStack, Tests, Reckons, Unknown}
 use Rattle.machine.specs.declared.FrameOp.{FrameOp}
 use Rattle.machine.specs.declared.FrameOp.the-variants.{Fget, Fset}
 use Rattle.machine.specs.declared.CallOp.the-variants.{Do}
-use Rattle.machine.specs.declared.StackOp.the-variants.{Pop, Dup, Count, Nop}
+use Rattle.machine.specs.declared.StackOp.the-variants.{Pop, Dup, Mark, Count, Nop}
 use Rattle.machine.specs.declared.ArithOp.{ArithOp}
 use Rattle.machine.specs.declared.ArithOp.the-variants.{Add, Sub, Mul, Div}
 use Rattle.machine.specs.State.{Entry, Context, State, running}
@@ -44,17 +45,21 @@ use Rattle.machine.specs.Skeleton.{holders, barred, oneOf, roleOf, solid}
 use Rattle.machine.specs.Literal.{Code, bytesOf, Found, operatorBy, foundBy, foundAt}
 use Rattle.machine.specs.Operators.{opOf, opIn, operators, arityOf, effectOf, popped, performed}
 use Rattle.machine.specs.Ops.Frame.{frameArity, frameEffect}
-use Rattle.machine.specs.Operand.{asOperator}
+use Rattle.machine.specs.Operand.{cardinal?, asOperator}
 use Rattle.machine.specs.Ops.Call.{called, callEffect}
 use Rattle.machine.specs.Ops.Stack.{stackArity, stackEffect}
 use Rattle.machine.specs.Ops.Arith.{arithArity, arithEffect}
 use Rattle.machine.specs.Contexts.{above, beneath, fault, settle}
-use Rattle.machine.specs.Engine.{provided, pops, repeat, worked, tally, call, does, affected}
-use Rattle.machine.specs.Step.{effectAt, execute, executed, literalStep, begunIn, begun, stepBy, dueIn, step, run}
+use Rattle.machine.specs.Engine.{provided, pops, repeat, worked, place, remove, tally, call, does, affected}
+use Rattle.machine.specs.Step.{effectAt, execute, executed, isUnmark0, literalStep, begunIn, begun, stepBy, dueIn, step, run}
 use Rattle.machine.proofs.Inside.{token-inside}
+use Rattle.operators.specs.declared.Card.{Card}
+use Rattle.operators.specs.declared.Card.the-variants.{No, Is}
+use Rattle.operators.specs.Operands.{cardOf}
+use Rattle.operators.proofs.Reading.{no-card, is-card}
 use Rattle.machine.proofs.Value.{the-type}
 use Rattle.literals.specs.declared.Due.{Due}
-use Rattle.literals.specs.Dues.{Is}
+use Rattle.literals.specs.Dues as dues
 use Rattle.literals.specs.Names.{both}
 use Rattle.state.specs.declared.Place.{Place}
 use Rattle.state.specs.declared.Registers.{Registers}
@@ -65,12 +70,13 @@ use Rattle.state.proofs.Cutting.{over-above}
 use Rattle.state.proofs.Trying.{trying, failed, tried-as}
 use Rattle.state.proofs.Entering.{goes-home, goes-nowhere}
 use Rattle.state.proofs.Ending.{not-on}
-use Rattle.engine.specs.Bodies.{Short, performs, Stepped}
-use Rattle.engine.specs.Swift.{flat, marked, raised, Flat, stepped, Ready, Strode, PastDo, Sprinted, Onward}
-use Rattle.engine.proofs.ByOrigin.{bytes-short, solid-inside}
-use Rattle.engine.proofs.Acting.{nothing-done, is-acts, by-call}
-use Rattle.engine.proofs.Level.{flat-made, flat-of}
-use Rattle.engine.proofs.Stepping.{busy-lower, plain-few, plain-done, plain-fails, step-do, goes-on, goes-back, run-next, run-both}
+use Rattle.engine.specs.Bodies.{Short, Stepped}
+use Rattle.engine.specs.Swift.{marked, raised, Flat, stepped, Executes, Ready, Stays, Strode, Attempted, Sprinted, Led, Onward}
+use Rattle.literals.proofs.Passing.{solid-inside}
+use Rattle.engine.proofs.ByOrigin.{bytes-short}
+use Rattle.engine.proofs.Acting.{nothing-done, is-acts, by-call, by-place}
+use Rattle.engine.proofs.Level.{flat, flat-made, flat-of}
+use Rattle.engine.proofs.Stepping.{busy-lower, plain-few, plain-done, plain-fails, run-next, run-both}
 
 -- ---- an operator that the table has is no part of the skeleton
 
@@ -121,25 +127,12 @@ op-role n o e k = pick (eqb n 107) refl (oneOf holders n) refl (oneOf barred n) 
     pick false h false i true j = clash o (e ∙ unknown-in barred n barred-unknown j) k
     pick false h false i false j = refl
 
-flat-known : (o : Op) (x y : Value) → flat (effectOf o x y) ≡ true → known o ≡ true
-unfolding effectOf
-flat-known (OnVectors k) x y f = refl
-flat-known (OnFrame k) x y f = refl
-flat-known (Calls k) x y f = refl
-flat-known (OnStack k) x y f = refl
-flat-known (Tests k) x y f = refl
-flat-known (Reckons k) x y f = refl
-flat-known Unknown x y f = not-on f
-
-pub flat-role : (n : ℕ) (o : Op) (x y : Value) (e : Effect) → o ≡ opOf n → e ≡ effectOf o x y → flat e ≡ true → roleOf n ≡ role.Plain
-flat-role n o x y e i j f = op-role n o i (flat-known o x y (rw (← j) f))
-
 -- ---- operators by number
 
 -- the operators that have functions of their own
-by-number : (OnFrame Fget ≡ opOf 20) × (OnFrame Fset ≡ opOf 21) × (OnStack Pop ≡ opOf 180) × (OnStack Dup ≡ opOf 181) × (OnStack Count ≡ opOf 188) × (OnStack Nop ≡ opOf 1) × (Calls Do ≡ opOf 231) × (Reckons Add ≡ opOf 201) × (Reckons Div ≡ opOf 204) × (Reckons Mul ≡ opOf 210) × (Reckons Sub ≡ opOf 214)
+by-number : (OnFrame Fget ≡ opOf 20) × (OnFrame Fset ≡ opOf 21) × (OnStack Pop ≡ opOf 180) × (OnStack Dup ≡ opOf 181) × (OnStack Count ≡ opOf 188) × (OnStack Nop ≡ opOf 1) × (Calls Do ≡ opOf 231) × (Reckons Add ≡ opOf 201) × (Reckons Div ≡ opOf 204) × (Reckons Mul ≡ opOf 210) × (Reckons Sub ≡ opOf 214) × (OnStack Mark ≡ opOf 186)
 unfolding opOf opIn operators
-by-number = (refl, refl, refl, refl, refl, refl, refl, refl, refl, refl, refl)
+by-number = (refl, refl, refl, refl, refl, refl, refl, refl, refl, refl, refl, refl)
 
 -- ADD, DIV, MUL, SUB
 module _ (n : ℕ) where
@@ -186,15 +179,15 @@ pop-effect : (x y : Value) → Acts (Works Nothing) ≡ effectOf (OnStack Pop) x
 unfolding effectOf stackEffect
 pop-effect x y = refl
 
--- DUP, COUNT and NOP pop nothing before the engine's part
-pops-none : (popped (Plain 181) ≡ 0) × (popped (Plain 188) ≡ 0) × (popped (Plain 1) ≡ 0)
+-- DUP, COUNT, NOP and UNMARK0 pop nothing before the engine's part
+pops-none : (popped (Plain 181) ≡ 0) × (popped (Plain 188) ≡ 0) × (popped (Plain 1) ≡ 0) × (popped (Plain 192) ≡ 0)
 unfolding popped opOf opIn operators arityOf stackArity
-pops-none = (refl, refl, refl)
+pops-none = (refl, refl, refl, refl)
 
 -- which is this
-own-part : (x y : Value) → (performed (Plain 181) x y ≡ Acts (Works (Repeat 1))) × (performed (Plain 188) x y ≡ Acts Tally) × (performed (Plain 1) x y ≡ Acts (Works Nothing))
+own-part : (x y : Value) → (performed (Plain 181) x y ≡ Acts (Works (Repeat 1))) × (performed (Plain 188) x y ≡ Acts Tally) × (performed (Plain 1) x y ≡ Acts (Works Nothing)) × (performed (Plain 192) x y ≡ Acts (Remove 0))
 unfolding performed opOf opIn operators effectOf stackEffect
-own-part x y = (refl, refl, refl)
+own-part x y = (refl, refl, refl, refl)
 
 once-flat : (n : ℕ) (e : Effect) → ((x y : Value) → performed (Plain n) x y ≡ e) → (s : State) → flat e ≡ true → flat (effectAt (Plain n) s) ≡ true
 unfolding effectAt
@@ -213,12 +206,19 @@ module _ {w w′ : List ℕ} {r : Registers} (code : Code) where
   unfolding affected does
   tallies t = t
 
+  removes : {r′ : Registers} → Tried (remove 0) w r w′ r′ → Tried (affected code (Acts (Remove 0))) w r w′ r′
+  unfolding affected does
+  removes t = t
+
   module _ (n : ℕ) (e : Effect) (z : popped (Plain n) ≡ 0) (i : (x y : Value) → performed (Plain n) x y ≡ e) where
     at-once : {r′ : Registers} → Tried (affected code e) w r w′ r′ → Tried (execute code (Plain n)) w r w′ r′
     unfolding execute provided pops effectAt
     at-once t =
         let vs = above (stackOf (slots w) (r .height)) in
         tried-as (rw (z, i (getD vs 0 state.zero) (getD vs 1 state.zero), le-leb 0 (length vs) (omega arith), over-above (stackOf (slots w) (r .height)))) t
+
+  pub is-unmark : (n : ℕ) (p : Registers) → n ≡ 192 → Tried (remove 0) w r w′ p → Tried (execute code (Plain n)) w r w′ p
+  is-unmark n p e t = rw e (at-once 192 (Acts (Remove 0)) (pops-none .3) (λ x y. own-part x y .3) (removes t))
 
   module _ (n h : ℕ) (p : Registers) (a : (p .ok ≡ true → h ≡ p .height) × (p .ok ≡ false → h ≡ 129)) where
     pub is-dup : n ≡ 181 → Tried (repeat 1) w r w′ p → Flat (execute code (Plain n)) w r w′ h × (h ≤ 128 → roleOf n ≡ role.Plain)
@@ -296,12 +296,8 @@ pub name-flat : (start len : ℕ) (s : State) → flat (effectAt (Name start len
 unfolding effectAt performed
 name-flat start len s = refl
 
-pub found-due : (f : Found) (d : Due) (x : Literal) → Is f d → d .literal ≡ x → f ≡ record { literal = x; next = d .next }
+pub found-due : (f : Found) (d : Due) (x : Literal) → dues.Is f d → d .literal ≡ x → f ≡ record { literal = x; next = d .next }
 found-due f d x i e = λ k. record { literal = (sym (i .literal) ∙ e) k; next = (sym (i .next)) k }
-
-pub found-do : (b : List ℕ) (at : ℕ) (f : Form) (n next past : ℕ) → Shows b at f → f ≡ form.Operator n next → n ≡ 231 → past ≡ solid b next → length b ≤ 16777215 → PastDo b at past × (past ≤ 16777215)
-found-do b at f n next past shows e en ep l =
-    (λ h. found-operator b at f shows 231 next past (rw en at e) ep (op-role 231 (Calls Do) (by-number .6) refl), omega (arith, ep, solid-inside b next (operator-inside b at f shows n next e)))
 
 -- ---- a step but for the end of bodies
 
@@ -314,40 +310,63 @@ pub place-is : (m : List Slot) (d at : ℕ) → 0 < d → at ≡ running (contex
 unfolding running contextAt contextIn
 place-is m d at h e = rw (contexts-top m d h) at e
 
+module _ {w w₁ : List ℕ} {r q : Registers} {n : ℕ} (be : Begun n w r w₁ q) where
+  -- no mark came
+  pub marked-begun : marked w₁ (q .height) ≡ marked w (r .height)
+  unfolding begun
+  marked-begun = ap (λ (s : State). length (beneath (s .stack))) (be .does) ∙ ap (λ (l : List Entry). length (beneath l)) (begun-stack n (contextsOf (slots w) (r .depth)) (abs w r))
+
+  pub stays : {f : State → Option State} {w′ : List ℕ} (h : ℕ) → Flat f w₁ q w′ h → Stays w r w′ h
+  stays h t = record { low = λ few. omega (arith, t .low few, marked-begun); keeps = λ few. t .made few .keeps ∙ be .keeps }
+
+pub stays-none : {w w′ : List ℕ} {r : Registers} (h : ℕ) → 128 < h → Stays w r w′ h
+stays-none h more = record { low = λ k. absurd (omega arith); keeps = λ k. absurd (omega arith) }
+
 module _ {code : Code} {b w : List ℕ} {at : ℕ} {r : Registers} (ready : Ready code b at w r) where
   pub strode-none : (h : ℕ) → 128 < h → Strode code at w r w h
   strode-none h more = record {
     does = λ k. absurd (omega arith);
-    keeps = λ k. absurd (omega arith);
-    low = λ k. absurd (omega arith);
     back = λ k. goes-nowhere (slots w) (r .depth) at (place-is (slots w) (r .depth) at (ready .runs) (ready .place));
   }
 
   module _ {w₁ : List ℕ} {q : Registers} (past n : ℕ) (en : n ≡ past) (be : Begun n w r w₁ q) where
-    -- no mark came
-    pub marked-begun : marked w₁ (q .height) ≡ marked w (r .height)
-    unfolding begun
-    marked-begun = ap (λ (s : State). length (beneath (s .stack))) (be .does) ∙ ap (λ (l : List Entry). length (beneath l)) (begun-stack n (contextsOf (slots w) (r .depth)) (abs w r))
+    due-step : (x : Literal) → foundAt b at ≡ record { literal = x; next = past } → step code (abs w r) ≡ executed (abs w₁ q) (execute code x (abs w₁ q))
+    unfolding step stepBy dueIn literalStep
+    due-step x found =
+        let e : r .skipping && not (isUnmark0 x) ≡ false = rw (← (ready .bytes), ← (ready .place), found) at (ready .executes) in
+        rw (← (ready .bytes), ← (ready .place), found, ← en, ← (be .does), e)
+
+    -- tried
+    pub attempted : {w′ : List ℕ} {p : Registers} (x : Literal) → foundAt b at ≡ record { literal = x; next = past } → Tried (execute code x) w₁ q w′ p → Attempted code w r w′ p
+    unfolding executed answer
+    attempted {w′} {p} x found t = record {
+      busy = t .busy;
+      counted = t .counted ∙ be .counted;
+      keeps = t .keeps ∙ be .keeps;
+      does =
+          λ o.
+          let d : some (abs w′ p) ≡ execute code x (abs w₁ q) = rw o at (t .does) in
+          sym (due-step x found ∙ (rw (← d)));
+      fails =
+          λ o.
+          let d : none ≡ execute code x (abs w₁ q) = rw o at (t .does) in
+          let e : abs w′ (stepped r (r .height)) ≡ abs w₁ q = rw (t .back o, be .registers) in
+          ap fault e ∙ sym (due-step x found ∙ (rw (← d)));
+    }
 
     module _ {w′ : List ℕ} (x : Literal) (h : ℕ) (found : h ≤ 128 → foundAt b at ≡ record { literal = x; next = past }) (t : Flat (execute code x) w₁ q w′ h) where
-      strode-step : h ≤ 128 → step code (abs w r) ≡ executed (abs w₁ q) (execute code x (abs w₁ q))
-      unfolding step stepBy dueIn literalStep
-      strode-step few = rw (← (ready .bytes), ← (ready .place), found few, ← en, ← (be .does), ready .on)
-
       strode-does : h ≤ 128 → settle (abs w′ (stepped r h)) ≡ step code (abs w r)
       unfolding executed answer
       strode-does few =
           let d : some (abs w′ (raised q h)) ≡ execute code x (abs w₁ q) = t .made few .does in
           let e : abs w′ (raised q h) ≡ abs w′ (stepped r h) = rw (be .registers) in
-          sym (strode-step few ∙ (rw (← d, e)))
+          sym (due-step x (found few) ∙ (rw (← d, e)))
 
       pub strode : Strode code at w r w′ h
       strode =
           let room = wide w (ready .good .room) in
           record {
             does = strode-does;
-            keeps = λ few. t .made few .keeps ∙ be .keeps;
-            low = λ few. omega (arith, t .low few, marked-begun);
             back =
                 λ more.
                 rw (t .back more, be .moves)
@@ -393,21 +412,47 @@ module _ {w : List ℕ} {r : Registers} (code : Code) (t : Tops) (g : Busy w r) 
     do-fails {r′} bad q =
         plain-fails code 231 1 (Calls Do) t g (by-number .6) do-one et x (valueIn (t .second)) h ex refl (no-operator x (valueIn (t .second)) bad) q
 
-module _ {w w₁ : List ℕ} {r q : Registers} (pre body b : List ℕ) (c : Place) (at past n : ℕ)
-    (here : (c .origin ≡ running (contextsOf (slots w) (r .depth)) .origin) × (c .start ≡ running (contextsOf (slots w) (r .depth)) .at)) (eb : b ≡ bytesOf (both pre body) (c .origin)) (ea : at ≡ c .start)
-    (due : PastDo b at past) (there : past ≡ 0 → ⊥) (en : n ≡ past) (be : Begun n w r w₁ q) (off : r .skipping ≡ false) where
-  is-do : Is (foundAt (bytesOf (both pre body) (c .origin)) (c .start)) (record { literal = Plain 231; next = past })
-  is-do = rw (← eb, ← ea, due (omega arith)) (record { literal = refl; next = refl })
+-- ---- MARK
 
-  do-step : {w′ : List ℕ} {r′ : Registers} → Done (performs (both pre body) (Plain 231)) w₁ q w′ r′ → Stepped pre body w r w′ r′
-  do-step d = step-do pre body c (record { literal = Plain 231; next = past }) n false here is-do en be (rw (be .skips, off)) refl d
+mark-one : (1 ≡ arityOf (OnStack Mark)) × (1 ≤ 2)
+unfolding arityOf stackArity
+mark-one = (refl, omega arith)
 
-  module _ {w₂ : List ℕ} {p : Registers} (t : Tried (execute (both pre body) (Plain 231)) w₁ q w₂ p) where
-    pub do-settles : {w′ : List ℕ} {r′ : Registers} → p .ok ≡ true → Done settle w₂ p w′ r′ → Stepped pre body w r w′ r′
-    do-settles o d = do-step (goes-on (both pre body) (Plain 231) (be .busy) t o d)
+module _ (x y : Value) (c : Card) (ec : cardOf c ≡ cardinal? x) where
+  mark-places : (n : ℕ) → c ≡ Is n → Acts (part.Place n) ≡ effectOf (OnStack Mark) x y
+  unfolding effectOf stackEffect
+  mark-places n e = is-card x (λ m. Acts (part.Place m)) ec e
 
-    pub do-faults : {w′ : List ℕ} {r′ : Registers} → p .ok ≡ false → Done fault w₂ q w′ r′ → Stepped pre body w r w′ r′
-    do-faults o d = do-step (goes-back (both pre body) (Plain 231) (be .busy) t o d)
+  mark-none : c ≡ No → Fail ≡ effectOf (OnStack Mark) x y
+  unfolding effectOf stackEffect
+  mark-none e = no-card x (λ m. Acts (part.Place m)) ec e
+
+module _ {w : List ℕ} {r : Registers} (code : Code) (t : Tops) (g : Busy w r) (et : Topmost (above (stackOf (slots w) (r .height))) t) where
+  pub mark-few : {r′ : Registers} → t .count < 1 → r′ ≡ failed r → Tried (execute code (Plain 186)) w r w r′
+  mark-few {r′} h q = plain-few code 186 1 (OnStack Mark) t g (by-number .11) mark-one et h q
+
+  module _ (h : 1 ≤ t .count) (x : Value) (ex : x ≡ valueIn (t .first)) (c : Card) (ec : cardOf c ≡ cardinal? x) where
+    pub mark-made : {w′ : List ℕ} {q r′ : Registers} (n k : ℕ) → c ≡ Is n → k ≡ n → q ≡ trying r (r .height - 1) (r .depth) (r .used) (r .ok) → Tried (place k) w q w′ r′ → Tried (execute code (Plain 186)) w r w′ r′
+    mark-made {w′} {q} {r′} n k e ek eq d =
+        plain-done code 186 1 (OnStack Mark) t g (by-number .11) mark-one et x (valueIn (t .second)) (Acts (part.Place n)) h ex refl (mark-places x (valueIn (t .second)) c ec n e) eq (is-acts code (Acts (part.Place n)) (part.Place n) refl (by-place code (part.Place n) n k refl ek d))
+
+    pub mark-fails : {r′ : Registers} → c ≡ No → r′ ≡ failed r → Tried (execute code (Plain 186)) w r w r′
+    mark-fails {r′} e q = plain-fails code 186 1 (OnStack Mark) t g (by-number .11) mark-one et x (valueIn (t .second)) h ex refl (mark-none x (valueIn (t .second)) c ec e) q
+
+-- ---- a step
+
+-- so it is with the bytes of the running body
+pub ready-now : {w : List ℕ} {r : Registers} (pre body b : List ℕ) (c : Place) (at : ℕ) → Good w r → 0 < r .depth → Executes (both pre body) (abs w r) → r .steps < 4294967295
+    → (c .origin ≡ running (contextsOf (slots w) (r .depth)) .origin) × (c .start ≡ running (contextsOf (slots w) (r .depth)) .at) → b ≡ bytesOf (both pre body) (c .origin) → at ≡ c .start → Ready (both pre body) b at w r
+ready-now pre body b c at g runs x few here eb ea =
+    record { good = g; runs = runs; executes = x; few = few; bytes = rw (← (here .0)) eb; place = ea ∙ here .1 }
+
+module _ {w w₁ : List ℕ} {r p : Registers} (pre body : List ℕ) (t : Attempted (both pre body) w r w₁ p) where
+  pub pace-settles : {w′ : List ℕ} {r′ : Registers} → p .ok ≡ true → Done settle w₁ p w′ r′ → Stepped pre body w r w′ r′
+  pace-settles o d = record { good = d .good; does = d .does ∙ t .does o; keeps = d .keeps ∙ t .keeps; counted = d .counted ∙ t .counted }
+
+  pub pace-faults : {w′ : List ℕ} {r′ : Registers} → p .ok ≡ false → Done fault w₁ (stepped r (r .height)) w′ r′ → Stepped pre body w r w′ r′
+  pace-faults o d = record { good = d .good; does = d .does ∙ t .fails o; keeps = d .keeps ∙ t .keeps; counted = d .counted }
 
 -- ---- several in a row
 
@@ -420,7 +465,7 @@ none-run code n s = let z : n - n ≡ 0 = omega arith in rw z
 pub ready-here : {code : Code} {b w : List ℕ} {r : Registers} (origin at place depth : ℕ) → Good w r → r .depth ≡ depth → 0 < depth → r .skipping ≡ false → r .steps < 4294967295 → b ≡ bytesOf code origin
     → place ≡ running (contextsOf (slots w) depth) .origin → place ≡ origin → at ≡ running (contextsOf (slots w) depth) .at → Ready code b at w r
 ready-here origin at place depth g d h on few eb ep eo ea =
-    record { good = g; runs = rw d h; on = on; few = few; bytes = rw (d, ← ep, eo) eb; place = rw d ea }
+    record { good = g; runs = rw d h; executes = rw on; few = few; bytes = rw (d, ← ep, eo) eb; place = rw d ea }
 
 -- gone back
 pub undone : (m m′ m″ : List Slot) (depth d at start : ℕ) → m″ ≡ goesTo m′ depth start → d ≡ depth → at ≡ start → goesTo m′ d at ≡ m → m″ ≡ m
@@ -460,14 +505,14 @@ module _ (code : Code) (w₀ w : List ℕ) (r₀ r : Registers) (most left : ℕ
         → run (most - (left - 1)) code (abs w₀ r₀) ≡ abs w′ (stepped r h)
     sprint-on r′ e d = one-more ∙ (sym (d .does) ∙ (rw (e, on)))
 
-    pub sprint-ends : length w′ ≡ length w → Sprinted code most w₀ r₀ w′ (record { height = h; depth = r .depth; used = r .used; steps = r .steps + 1; errors = r .errors; skipping = r .skipping; ok = true })
-    sprint-ends long =
+    pub sprint-ends : length w′ ≡ length w → aside w′ ≡ aside w → Sprinted code most w₀ r₀ w′ (record { height = h; depth = r .depth; used = r .used; steps = r .steps + 1; errors = r .errors; skipping = r .skipping; ok = true })
+    sprint-ends long kept =
         let z : r .steps + 1 - r₀ .steps ≡ most - (left - 1) = omega arith in
         record {
           good = record { room = omega (arith, g .room); stack-fits = fits; depth-fits = g .depth-fits; cells-fit = g .cells-fit; errors-fit = omega (arith, g .errors-fit) };
           runs = runs;
           on = on;
-          keeps = t .keeps fits ∙ same;
+          keeps = kept ∙ same;
           since = omega arith;
           within = omega arith;
           some = λ k. omega arith;
@@ -479,43 +524,112 @@ module _ (code : Code) (w₀ w : List ℕ) (r₀ r : Registers) (most left : ℕ
 -- ---- a run, some steps at a time
 
 module _ {code : Code} {w w₁ : List ℕ} {r q : Registers} (most : ℕ) (t : Sprinted code most w r w₁ q) where
-  pub onward-ends : {w′ : List ℕ} {r′ : Registers} → q .ok ≡ true → Done settle w₁ q w′ r′ → Onward code most w r w′ r′
-  onward-ends {w′} {r′} o d =
-      record { good = d .good; does = d .does ∙ (rw (d .counted) (sym (t .ends o))); keeps = d .keeps ∙ t .keeps; some = omega (arith, d .counted, t .some o); within = omega (arith, d .counted, t .within) }
+  -- a row that has ended its body
+  pub led-ends : {w′ : List ℕ} (r′ p : Registers) → q .ok ≡ true → Done settle w₁ q w′ p → r′ ≡ record { height = p .height; depth = p .depth; used = p .used; steps = p .steps; errors = p .errors; skipping = p .skipping; ok = false } → Led code most w r w′ r′
+  led-ends {w′} r′ p o d e =
+      rw e
+      (record {
+        good = record { room = d .good .room; stack-fits = d .good .stack-fits; depth-fits = d .good .depth-fits; cells-fit = d .good .cells-fit; errors-fit = d .good .errors-fit };
+        does = (rw (d .counted) (t .ends o)) ∙ sym (d .does);
+        keeps = d .keeps ∙ t .keeps;
+        since = omega (arith, d .counted, t .since);
+        within = omega (arith, d .counted, t .within);
+        some = λ _. omega (arith, d .counted, t .some o);
+        more = λ h. not-on h;
+        runs = λ h. not-on h;
+        executes = λ h. not-on h;
+      })
 
-  module _ (o : q .ok ≡ false) where
-    pub onward-all : 0 < most → r .steps + most ≤ q .steps → Onward code most w r w₁ q
-    onward-all h k = record { good = t .good; does = sym (t .does o); keeps = t .keeps; some = omega arith; within = t .within }
+  -- one that has not
+  pub led-stops : (r′ : Registers) (b : Bool) → q .ok ≡ false → 0 < most → b ≡ ltb (q .steps) (r .steps + most) → r′ ≡ record { height = q .height; depth = q .depth; used = q .used; steps = q .steps; errors = q .errors; skipping = q .skipping; ok = b } → Led code most w r w₁ r′
+  led-stops r′ b o m eb e =
+      rw e
+      (record {
+        good = record { room = t .good .room; stack-fits = t .good .stack-fits; depth-fits = t .good .depth-fits; cells-fit = t .good .cells-fit; errors-fit = t .good .errors-fit };
+        does = t .does o;
+        keeps = t .keeps;
+        since = t .since;
+        within = t .within;
+        some = λ h. let l = ltb-false (q .steps) (r .steps + most) (sym eb ∙ h) in omega (arith, t .within);
+        more = λ h. ltb-true (q .steps) (r .steps + most) (sym eb ∙ h);
+        runs = λ h. t .runs;
+        executes = λ h. rw (t .on);
+      })
 
-    pub onward-step : {w′ : List ℕ} {r′ : Registers} → q .steps < r .steps + most → abs w′ r′ ≡ step code (abs w₁ q) → Good w′ r′ → aside w′ ≡ aside w₁ → r′ .steps ≡ q .steps + 1 → Onward code most w r w′ r′
-    onward-step {w′} {r′} k e g same n =
-        let z : r′ .steps - r .steps ≡ suc (q .steps - r .steps) = omega (arith, n, t .since) in
-        record { good = g; does = e ∙ (rw (z, run-next code (q .steps - r .steps) (abs w r) w₁ q (t .does o) (t .runs))); keeps = same ∙ t .keeps; some = omega (arith, n, t .since); within = omega (arith, n) }
+-- the step is the same whatever `ok` says
+pub quiet : {pre body w w′ : List ℕ} {r r′ : Registers} → Stepped pre body w r w′ r′ → Stepped pre body w r w′ (record { height = r′ .height; depth = r′ .depth; used = r′ .used; steps = r′ .steps; errors = r′ .errors; skipping = r′ .skipping; ok = false })
+quiet d = record { good = record { room = d .good .room; stack-fits = d .good .stack-fits; depth-fits = d .good .depth-fits; cells-fit = d .good .cells-fit; errors-fit = d .good .errors-fit }; does = d .does; keeps = d .keeps; counted = d .counted }
 
--- a step after others
+-- a literal passed over after others
 module _ (pre body w₀ w : List ℕ) (r₀ r : Registers) (most left : ℕ) (runs : 0 < r .depth) (few : left ≤ most) (sum : r .steps + left ≡ r₀ .steps + most) (same : aside w ≡ aside w₀)
     (inv : run (most - left) (both pre body) (abs w₀ r₀) ≡ abs w r) where
-  module _ {w′ : List ℕ} {r′ : Registers} (h : 0 < left) (d : Stepped pre body w r w′ r′) where
-    pub after-step : Onward (both pre body) most w₀ r₀ w′ r′
-    after-step =
-        let z : r′ .steps - r₀ .steps ≡ suc (most - left) = omega (arith, d .counted) in
-        record {
-          good = d .good;
-          does = d .does ∙ (rw (z, run-next (both pre body) (most - left) (abs w₀ r₀) w r inv runs));
-          keeps = d .keeps ∙ same;
-          some = omega (arith, d .counted);
-          within = omega (arith, d .counted);
-        }
+  -- UNMARK0 is due
+  pub led-here : Good w r → 0 < left → Executes (both pre body) (abs w r) → Led (both pre body) most w₀ r₀ w (record { height = r .height; depth = r .depth; used = r .used; steps = r .steps; errors = r .errors; skipping = r .skipping; ok = true })
+  led-here g h x =
+      let z : r .steps - r₀ .steps ≡ most - left = omega arith in
+      record {
+        good = record { room = g .room; stack-fits = g .stack-fits; depth-fits = g .depth-fits; cells-fit = g .cells-fit; errors-fit = g .errors-fit };
+        does = rw z inv;
+        keeps = same;
+        since = omega arith;
+        within = omega arith;
+        some = λ o. not-on (sym o);
+        more = λ o. omega arith;
+        runs = λ o. runs;
+        executes = λ o. x;
+      }
 
+  module _ {w′ : List ℕ} {r′ : Registers} (h : 0 < left) (d : Stepped pre body w r w′ r′) where
     pub after-inv : run (most - (left - 1)) (both pre body) (abs w₀ r₀) ≡ abs w′ r′
     after-inv =
         let z : most - (left - 1) ≡ suc (most - left) = omega arith in
         rw (z, run-next (both pre body) (most - left) (abs w₀ r₀) w r inv runs) (sym (d .does))
 
-  pub after-all : Good w r → 0 < most → left ≤ 0 → Onward (both pre body) most w₀ r₀ w r
-  after-all g h l =
+    pub after-led : r′ .ok ≡ false → Led (both pre body) most w₀ r₀ w′ r′
+    after-led o =
+        let z : r′ .steps - r₀ .steps ≡ most - (left - 1) = omega (arith, d .counted) in
+        record {
+          good = d .good;
+          does = rw z after-inv;
+          keeps = d .keeps ∙ same;
+          since = omega (arith, d .counted);
+          within = omega (arith, d .counted);
+          some = λ _. omega (arith, d .counted);
+          more = λ k. not-on (sym o ∙ k);
+          runs = λ k. not-on (sym o ∙ k);
+          executes = λ k. not-on (sym o ∙ k);
+        }
+
+  pub led-all : Good w r → 0 < most → left ≤ 0 → r .ok ≡ false → Led (both pre body) most w₀ r₀ w r
+  led-all g h l o =
       let z : r .steps - r₀ .steps ≡ most - left = omega arith in
-      record { good = g; does = rw z (sym inv); keeps = same; some = omega arith; within = omega arith }
+      record {
+        good = g;
+        does = rw z inv;
+        keeps = same;
+        since = omega arith;
+        within = omega arith;
+        some = λ _. omega arith;
+        more = λ k. not-on (sym o ∙ k);
+        runs = λ k. not-on (sym o ∙ k);
+        executes = λ k. not-on (sym o ∙ k);
+      }
+
+-- and one step more
+module _ {w w₁ : List ℕ} {r q : Registers} (pre body : List ℕ) (most : ℕ) (t : Led (both pre body) most w r w₁ q) where
+  pub onward-paced : {w′ : List ℕ} {r′ : Registers} → q .ok ≡ true → Stepped pre body w₁ q w′ r′ → Onward (both pre body) most w r w′ r′
+  onward-paced {w′} {r′} o d =
+      let z : r′ .steps - r .steps ≡ suc (q .steps - r .steps) = omega (arith, d .counted, t .since) in
+      record {
+        good = d .good;
+        does = d .does ∙ (rw (z, run-next (both pre body) (q .steps - r .steps) (abs w r) w₁ q (t .does) (t .runs o)));
+        keeps = d .keeps ∙ t .keeps;
+        some = omega (arith, d .counted, t .since);
+        within = omega (arith, d .counted, t .more o);
+      }
+
+  pub onward-led : q .ok ≡ false → Onward (both pre body) most w r w₁ q
+  onward-led o = record { good = t .good; does = sym (t .does); keeps = t .keeps; some = t .some o; within = t .within }
 
 pub run-onward : {R : State} {code : Code} {w w′ : List ℕ} {r r′ : Registers} (n : ℕ) → run n code (abs w r) ≡ R → Onward code n w r w′ r′ → run (n - (r′ .steps - r .steps)) code (abs w′ r′) ≡ R
 run-onward {R} {code} {w} {w′} {r} {r′} n inv d =

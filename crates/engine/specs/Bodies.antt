@@ -7,9 +7,7 @@ use lib.ListN.{length}
 use Rattle.tokens.specs.Format.{longest}
 use Rattle.machine.specs.declared.Literal.{Literal}
 use Rattle.machine.specs.declared.Literal.the-variants.{Figure, Name, Text, Plain, WithBody}
-use Rattle.machine.specs.State.{State}
-use Rattle.machine.specs.Literal.{Code}
-use Rattle.machine.specs.Step.{execute, executed, step, run}
+use Rattle.machine.specs.Step.{step, run}
 use Rattle.literals.specs.Names.{both}
 use Rattle.state.specs.declared.Registers.{Registers}
 use Rattle.state.specs.Layout.{aside, abs, Good}
@@ -25,10 +23,6 @@ SizedLiteral (Name start len) = Unit
 SizedLiteral (Text start) = Unit
 SizedLiteral (Plain n) = Unit
 SizedLiteral (WithBody n start len) = start + len < 4294967296
-
--- a literal executed, and what follows
-unfoldable pub performs : Code → Literal → State → State
-performs code x s = executed s (execute code x s)
 
 -- one step
 pub record Stepped (pre body w : List ℕ) (r : Registers) (w′ : List ℕ) (r′ : Registers) : Type 0 where

@@ -1,56 +1,19 @@
--- Literals that leave cells and contexts as they are, executed several in a row. Each answers the new height of the stack, or more than
--- the stack can hold: then nothing was done. Assumes nothing.
+-- Steps as the code takes them: some literals in a row, each answering the new height of the stack, or more than the stack can hold, when
+-- nothing was done; one literal of any kind; literals passed over; and several steps. Assumes nothing.
 use Prim.Native.Nat.{ℕ, _+_, _-_, _≤_, _<_}
 use mathlib.Core.Path.{_≡_}
-use mathlib.Core.Bool.{Bool, true, false}
+use mathlib.Core.Bool.{true, false, not, _&&_}
 use mathlib.Core.List.{List}
-use mathlib.Core.Option.{Option, some}
+use mathlib.Core.Option.{Option}
 use lib.ListN.{length}
 use Rattle.table.specs.Slots.{slots}
-use Rattle.machine.specs.declared.Work.{Work}
-use Rattle.machine.specs.declared.Work.the-variants.{Nothing, Fetch, Element, Build, Spell, Utter, Compose, Repeat, Turn, Match, Report}
-use Rattle.machine.specs.declared.Next.{Next}
-use Rattle.machine.specs.declared.Next.the-variants.{Works, Inline, Call, Store, Place, Remove, Tally}
-use Rattle.machine.specs.declared.Effect.{Effect}
-use Rattle.machine.specs.declared.Literal.the-variants.{Plain}
-use Rattle.machine.specs.declared.Effect.the-variants.{Fail, Gives, Gives2, Acts}
 use Rattle.machine.specs.Limits.{mostEntries}
 use Rattle.machine.specs.State.{State, running}
-use Rattle.machine.specs.Literal.{Code, bytesOf, foundAt}
-use Rattle.machine.specs.Contexts.{beneath, settle}
-use Rattle.machine.specs.Step.{step, run}
+use Rattle.machine.specs.Literal.{Code, bytesOf}
+use Rattle.machine.specs.Contexts.{beneath, fault, settle}
+use Rattle.machine.specs.Step.{isUnmark0, dueIn, step, run}
 use Rattle.state.specs.declared.Registers.{Registers}
-use Rattle.state.specs.Layout.{goesTo, stackOf, contextsOf, aside, abs, Good, Tried}
-
--- ---- effects that make no cells, enter no body and place no mark
-
-abbrev pub flatWork : Work → Bool
-flatWork Nothing = true
-flatWork (Fetch j) = true
-flatWork (Element cell) = true
-flatWork (Build lower n) = false
-flatWork (Spell start) = false
-flatWork (Utter start len) = true
-flatWork (Compose start len) = false
-flatWork (Repeat n) = true
-flatWork (Turn n m) = true
-flatWork (Match v u) = true
-flatWork (Report v) = true
-
-abbrev pub flatNext : Next → Bool
-flatNext (Works x) = flatWork x
-flatNext (Inline start len owes) = false
-flatNext (Call origin start len first) = false
-flatNext (Store j) = true
-flatNext (Place n) = false
-flatNext (Remove n) = true
-flatNext Tally = true
-
-abbrev pub flat : Effect → Bool
-flat Fail = false
-flat (Gives a) = true
-flat (Gives2 a b) = true
-flat (Acts x) = flatNext x
+use Rattle.state.specs.Layout.{goesTo, stackOf, contextsOf, aside, abs, Good, Busy, Tried}
 
 -- ---- one literal
 
@@ -72,25 +35,36 @@ pub record Flat (f : State → Option State) (w : List ℕ) (r : Registers) (w�
 abbrev pub stepped : Registers → ℕ → Registers
 stepped r h = record { height = h; depth = r .depth; used = r .used; steps = r .steps + 1; errors = r .errors; skipping = r .skipping; ok = r .ok }
 
--- the running body, whose bytes are b, goes on at `at`
+-- the literal that is due is not passed over
+abbrev pub Executes : Code → State → Type 0
+Executes code s = s .skipping && not (isUnmark0 (dueIn code s .literal)) ≡ false
+
+-- the running body, whose bytes are b, goes on at `at`, with a literal that is not passed over
 pub record Ready (code : Code) (b : List ℕ) (at : ℕ) (w : List ℕ) (r : Registers) : Type 0 where
   pub good : Good w r
   pub runs : 0 < r .depth
-  pub on : r .skipping ≡ false
+  pub executes : Executes code (abs w r)
   pub few : r .steps < 4294967295
   pub bytes : b ≡ bytesOf code (running (contextsOf (slots w) (r .depth)) .origin)
   pub place : at ≡ running (contextsOf (slots w) (r .depth)) .at
 
+-- marks stand no higher than before, and the frame kept aside is as it was
+pub record Stays (w : List ℕ) (r : Registers) (w′ : List ℕ) (h : ℕ) : Type 0 where
+  pub low : h ≤ mostEntries → marked w′ h ≤ marked w (r .height)
+  pub keeps : h ≤ mostEntries → aside w′ ≡ aside w
+
 -- a step but for the end of bodies, of the literal at `at`
 pub record Strode (code : Code) (at : ℕ) (w : List ℕ) (r : Registers) (w′ : List ℕ) (h : ℕ) : Type 0 where
   pub does : h ≤ mostEntries → settle (abs w′ (stepped r h)) ≡ step code (abs w r)
-  pub keeps : h ≤ mostEntries → aside w′ ≡ aside w
-  pub low : h ≤ mostEntries → marked w′ h ≤ marked w (r .height)
   pub back : mostEntries < h → goesTo (slots w′) (r .depth) at ≡ slots w
 
--- DO stands at `at`, and the next literal at `past`; where that is 0, nothing is said
-abbrev pub PastDo : List ℕ → ℕ → ℕ → Type 0
-PastDo b at past = 0 < past → foundAt b at ≡ record { literal = Plain 231; next = past }
+-- a literal tried within a step; `ok` says whether it was executed
+pub record Attempted (code : Code) (w : List ℕ) (r : Registers) (w′ : List ℕ) (r′ : Registers) : Type 0 where
+  pub busy : Busy w′ r′
+  pub counted : r′ .steps ≡ r .steps + 1
+  pub keeps : aside w′ ≡ aside w
+  pub does : r′ .ok ≡ true → settle (abs w′ r′) ≡ step code (abs w r)
+  pub fails : r′ .ok ≡ false → fault (abs w′ (stepped r (r .height))) ≡ step code (abs w r)
 
 -- ---- several
 
@@ -106,6 +80,18 @@ pub record Sprinted (code : Code) (most : ℕ) (w : List ℕ) (r : Registers) (w
   pub counted : r′ .ok ≡ true → r′ .errors < r′ .steps
   pub ends : r′ .ok ≡ true → run (r′ .steps - r .steps) code (abs w r) ≡ settle (abs w′ r′)
   pub does : r′ .ok ≡ false → run (r′ .steps - r .steps) code (abs w r) ≡ abs w′ r′
+
+-- some steps, at most so many; `ok`: then there is room for one more, and its literal is not passed over
+pub record Led (code : Code) (most : ℕ) (w : List ℕ) (r : Registers) (w′ : List ℕ) (r′ : Registers) : Type 0 where
+  pub good : Good w′ r′
+  pub does : run (r′ .steps - r .steps) code (abs w r) ≡ abs w′ r′
+  pub keeps : aside w′ ≡ aside w
+  pub since : r .steps ≤ r′ .steps
+  pub within : r′ .steps ≤ r .steps + most
+  pub some : r′ .ok ≡ false → r .steps < r′ .steps
+  pub more : r′ .ok ≡ true → r′ .steps < r .steps + most
+  pub runs : r′ .ok ≡ true → 0 < r′ .depth
+  pub executes : r′ .ok ≡ true → Executes code (abs w′ r′)
 
 -- some steps, at most so many
 pub record Onward (code : Code) (most : ℕ) (w : List ℕ) (r : Registers) (w′ : List ℕ) (r′ : Registers) : Type 0 where

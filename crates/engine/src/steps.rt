@@ -1,16 +1,17 @@
 // A literal executed, a step, and a body under an allowance.
 ghost use mathlib.Core.Path.{_≡_};
-ghost use mathlib.Core.Bool.{false, not, _&&_};
+ghost use mathlib.Core.Bool.{true, false};
 ghost use Prim.Native.Nat.{_+_, _<_, _≤_};
-ghost use lib.ListN.{length};
 ghost use Rattle.machine.specs.declared.Literal.the-variants.{Plain, WithBody};
-ghost use Rattle.machine.specs.Step.{execute, isUnmark0, run};
+ghost use Rattle.machine.specs.Literal.{Code};
+ghost use Rattle.machine.specs.Step.{execute, run};
 ghost use Rattle.literals.specs.Names.{both};
-ghost use Rattle.state.specs.Layout.{Good, Busy, Done, Tried};
-ghost use Rattle.engine.specs.Bodies.{Short, SizedLiteral, Stepped, Ran, performs};
-ghost use Rattle.engine.specs.Swift.{PastDo, Sprinted, Onward};
+ghost use Rattle.state.specs.Layout.{abs, Good, Busy, Tried};
+ghost use Rattle.engine.specs.Bodies.{Short, SizedLiteral, Stepped, Ran};
+ghost use Rattle.engine.specs.Swift.{Executes, Ready, Attempted, Sprinted, Led, Onward};
 use machine::Literal;
 use machine::Value;
+use operators::Card;
 use state::Registers;
 
 // An operator without a body: the values that it pops must stand above the topmost mark.
@@ -71,54 +72,24 @@ fn execute<'a>(w: &mut [u8], r: Registers, pre: &'a [u8], body: &'a [u8], x: Lit
     }
 }
 
-// A literal executed, and what follows: the end of bodies, or recovery.
-fn perform<'a>(w: &mut [u8], r: Registers, pre: &'a [u8], body: &'a [u8], x: Literal) -> Registers
-    requires { ⌜ Busy (now w) r × Short (now pre) (now body) × SizedLiteral x ⌝ }
-    ensures { λ q. ⌜ Done (performs (both (now (pre .entry)) (now (body .entry))) x) (now (w .entry)) r (now (w .exit)) q ⌝ }
-{
-    let q = execute(w, r, pre, body, x);
-    if q.ok {
-        state::recovery::settle(w, q)
-    } else {
-        state::recovery::fault(w, r)
-    }
-}
+// ---- operators on ways of their own
 
-// Whether the literal is passed over: skipping stops at UNMARK0.
-fn passes(skipping: bool, x: Literal) -> bool
-    ensures { λ b. ⌜ b ≡ skipping && not (isUnmark0 x) ⌝ }
+fn mark(w: &mut [u8], r: Registers) -> Registers
+    requires { ⌜ Busy (now w) r ⌝ }
+    ensures { λ q. ⌜ ((code : Code) → Tried (execute code (Plain 186)) (now (w .entry)) r (now (w .exit)) q) ⌝ }
 {
-    if skipping {
-        match x {
-            Literal::Figure(_) => true,
-            Literal::Name { start: _, len: _ } => true,
-            Literal::Text { start: _ } => true,
-            Literal::Plain { number } => number != 192,
-            Literal::WithBody {
-                number: _,
-                start: _,
-                len: _,
-            } => true,
+    let t = state::stack::tops(w, r.height);
+    if t.count < 1 {
+        return state::stack::failed(r);
+    }
+    let x = state::values::value_of(t.first);
+    match operators::operands::cardinal(x) {
+        Card::No => state::stack::failed(r),
+        Card::Is(n) => {
+            let mut q = r;
+            q.height = r.height - 1;
+            state::marks::place(w, q, table::words::size(n))
         }
-    } else {
-        false
-    }
-}
-
-fn step<'a>(w: &mut [u8], r: Registers, pre: &'a [u8], body: &'a [u8]) -> Registers
-    requires { ⌜ Good (now w) r × (0 < r .depth) × (r .steps < 4294967295) × Short (now pre) (now body) ⌝ }
-    ensures { λ q. ⌜ Stepped (now (pre .entry)) (now (body .entry)) (now (w .entry)) r (now (w .exit)) q ⌝ }
-{
-    let c = state::bodies::running(w, r.depth);
-    let b = crate::origins::bytes_of(pre, body, c.origin);
-    let d = literals::reading::due(b, table::words::size(c.start));
-    let q = state::bodies::begin(w, r, table::words::word(d.next));
-    let x = d.literal;
-    let over = passes(q.skipping, x);
-    if over {
-        state::recovery::skipped(w, q)
-    } else {
-        perform(w, q, pre, body, x)
     }
 }
 
@@ -146,41 +117,60 @@ fn run_operator<'a>(w: &mut [u8], r: Registers, pre: &'a [u8], body: &'a [u8]) -
     }
 }
 
-// Past DO and the comments after it; 0 where another literal stands.
-fn past_do(b: &[u8], at: usize) -> usize
-    requires { ⌜ length (now b) ≤ 16777215 ⌝ }
-    ensures { λ r. ⌜ PastDo (now (b .entry)) at r × (r ≤ 16777215) ⌝ }
+fn operator<'a>(w: &mut [u8], r: Registers, pre: &'a [u8], body: &'a [u8], n: u16) -> Registers
+    requires { ⌜ Busy (now w) r × Short (now pre) (now body) ⌝ }
+    ensures { λ q. ⌜ Tried (execute (both (now (pre .entry)) (now (body .entry))) (Plain n)) (now (w .entry)) r (now (w .exit)) q ⌝ }
 {
-    match tokens::forms::form_at(b, at) {
-        tokens::Form::Operator { number, next } => {
-            if number == 231 {
-                return skeleton::bodies::past_comments(b, next);
-            }
-            0
-        }
-        _ => 0,
+    match n {
+        186 => mark(w, r),
+        192 => state::marks::remove(w, r, 0),
+        231 => run_operator(w, r, pre, body),
+        _ => plain(w, r, pre, body, n),
     }
 }
 
-// A step; DO, of which there are many, without a look at the other literals.
+// ---- a step
+
+// The literal at `at` of the running body, whose bytes are b.
+fn literal<'a>(
+    w: &mut [u8],
+    r: Registers,
+    pre: &'a [u8],
+    body: &'a [u8],
+    b: &[u8],
+    at: usize,
+) -> Registers
+    requires { ⌜ Ready (both (now pre) (now body)) (now b) at (now w) r × Short (now pre) (now body) ⌝ }
+    ensures { λ q. ⌜ Attempted (both (now (pre .entry)) (now (body .entry))) (now (w .entry)) r (now (w .exit)) q ⌝ }
+{
+    let o = literals::reading::bare_operator(b, at);
+    if o.number != 0 {
+        let q = state::bodies::begin(w, r, table::words::word(o.next));
+        return operator(w, q, pre, body, o.number);
+    }
+    let d = literals::reading::due(b, at);
+    let q = state::bodies::begin(w, r, table::words::word(d.next));
+    let x = d.literal;
+    execute(w, q, pre, body, x)
+}
+
+// A step with a literal that is not passed over.
 fn pace<'a>(w: &mut [u8], r: Registers, pre: &'a [u8], body: &'a [u8]) -> Registers
-    requires { ⌜ Good (now w) r × (0 < r .depth) × (r .skipping ≡ false) × (r .steps < 4294967295) × Short (now pre) (now body) ⌝ }
+    requires { ⌜ Good (now w) r × (0 < r .depth) × Executes (both (now pre) (now body)) (abs (now w) r) × (r .steps < 4294967295) × Short (now pre) (now body) ⌝ }
     ensures { λ q. ⌜ Stepped (now (pre .entry)) (now (body .entry)) (now (w .entry)) r (now (w .exit)) q ⌝ }
 {
     let c = state::bodies::running(w, r.depth);
     let b = crate::origins::bytes_of(pre, body, c.origin);
-    let past = past_do(b, table::words::size(c.start));
-    if past == 0 {
-        return step(w, r, pre, body);
-    }
-    let q = state::bodies::begin(w, r, table::words::word(past));
-    let p = run_operator(w, q, pre, body);
+    let p = literal(w, r, pre, body, b, table::words::size(c.start));
     if p.ok {
-        state::recovery::settle(w, p)
-    } else {
-        state::recovery::fault(w, q)
+        return state::recovery::settle(w, p);
     }
+    let mut q = r;
+    q.steps = r.steps + 1;
+    state::recovery::fault(w, q)
 }
+
+// ---- several steps
 
 // Literals of the running body in a row, as many as `swift` executes, at most so many.
 fn stretch<'a>(w: &mut [u8], r: Registers, pre: &'a [u8], body: &'a [u8], most: usize) -> Registers
@@ -189,35 +179,55 @@ fn stretch<'a>(w: &mut [u8], r: Registers, pre: &'a [u8], body: &'a [u8], most: 
 {
     let c = state::bodies::running(w, r.depth);
     let b = crate::origins::bytes_of(pre, body, c.origin);
-    crate::swift::sprint(w, r, pre, body, b, c.origin, most)
+    crate::swift::sprint(w, r, b, c.origin, most)
 }
 
-// Literals of the running body passed over; the last step is any.
+// Literals of the running body passed over, up to UNMARK0.
 fn pass<'a>(w: &mut [u8], start: Registers, pre: &'a [u8], body: &'a [u8], most: usize) -> Registers
-    requires { ⌜ Good (now w) start × (0 < start .depth) × (0 < most) × (start .steps + most ≤ 1000000) × Short (now pre) (now body) ⌝ }
-    ensures { λ q. ⌜ Onward (both (now (pre .entry)) (now (body .entry))) most (now (w .entry)) start (now (w .exit)) q ⌝ }
+    requires { ⌜ Good (now w) start × (0 < start .depth) × (start .skipping ≡ true) × (0 < most) × (start .steps + most ≤ 1000000) × Short (now pre) (now body) ⌝ }
+    ensures { λ q. ⌜ Led (both (now (pre .entry)) (now (body .entry))) most (now (w .entry)) start (now (w .exit)) q ⌝ }
 {
     let depth = start.depth;
     let mut r = start;
+    r.ok = false;
     let mut left = most;
     while left > 0 {
         let c = state::bodies::running(w, depth);
         let b = crate::origins::bytes_of(pre, body, c.origin);
-        let d = literals::reading::due(b, table::words::size(c.start));
-        let x = d.literal;
-        let over = passes(r.skipping, x);
-        if over {
-            let q = state::bodies::begin(w, r, table::words::word(d.next));
-            r = state::recovery::skipped(w, q);
-            left -= 1;
-            if r.depth == depth {
-                continue;
-            }
+        let d = literals::reading::ahead(b, table::words::size(c.start));
+        if d.unmarks {
+            r.ok = true;
             return r;
         }
-        return step(w, r, pre, body);
+        let q = state::bodies::begin(w, r, table::words::word(d.next));
+        r = state::recovery::skipped(w, q);
+        r.ok = false;
+        left -= 1;
+        if r.depth == depth {
+            continue;
+        }
+        return r;
     }
     r
+}
+
+// Steps up to a literal that wants a step of its own.
+fn lead<'a>(w: &mut [u8], r: Registers, pre: &'a [u8], body: &'a [u8], most: usize) -> Registers
+    requires { ⌜ Good (now w) r × (0 < r .depth) × (0 < most) × (r .steps + most ≤ 1000000) × Short (now pre) (now body) ⌝ }
+    ensures { λ q. ⌜ Led (both (now (pre .entry)) (now (body .entry))) most (now (w .entry)) r (now (w .exit)) q ⌝ }
+{
+    if r.skipping {
+        return pass(w, r, pre, body, most);
+    }
+    let p = stretch(w, r, pre, body, most);
+    if p.ok {
+        let mut q = state::recovery::settle(w, p);
+        q.ok = false;
+        return q;
+    }
+    let mut q = p;
+    q.ok = p.steps < r.steps + most;
+    q
 }
 
 // At least one step, at most so many.
@@ -225,14 +235,8 @@ fn onward<'a>(w: &mut [u8], r: Registers, pre: &'a [u8], body: &'a [u8], most: u
     requires { ⌜ Good (now w) r × (0 < r .depth) × (0 < most) × (r .steps + most ≤ 1000000) × Short (now pre) (now body) ⌝ }
     ensures { λ q. ⌜ Onward (both (now (pre .entry)) (now (body .entry))) most (now (w .entry)) r (now (w .exit)) q ⌝ }
 {
-    if r.skipping {
-        return pass(w, r, pre, body, most);
-    }
-    let q = stretch(w, r, pre, body, most);
+    let q = lead(w, r, pre, body, most);
     if q.ok {
-        return state::recovery::settle(w, q);
-    }
-    if q.steps < r.steps + most {
         return pace(w, q, pre, body);
     }
     q

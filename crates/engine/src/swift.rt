@@ -1,5 +1,6 @@
-// The literals that masters are mostly made of: numbers of two bytes, and operators that leave cells and contexts as they are. Several in
-// a row are executed here, the height of the stack in hand. Nothing here fails: what is not done here is left undone, for `steps`.
+// The literals that masters are mostly made of: numbers of two bytes, and the operators met most of those that leave cells and contexts as
+// they are; and longer numbers and names. Several in a row are executed here, the height of the stack in hand. Nothing here fails: what is
+// not done here is left undone, for `steps`.
 ghost use mathlib.Core.Path.{_≡_};
 ghost use mathlib.Core.Bool.{true, false};
 ghost use Prim.Native.Nat.{ℕ, _+_, _<_, _≤_};
@@ -14,9 +15,7 @@ ghost use Rattle.machine.specs.Operators.{opOf, arityOf};
 ghost use Rattle.machine.specs.Literal.{Code, bytesOf};
 ghost use Rattle.machine.specs.Step.{execute};
 ghost use Rattle.state.specs.Layout.{Good, Busy};
-ghost use Rattle.literals.specs.Names.{both};
-ghost use Rattle.engine.specs.Bodies.{Short};
-ghost use Rattle.engine.specs.Swift.{flatWork, flatNext, flat, marked, Flat, Ready, Strode, Sprinted};
+ghost use Rattle.engine.specs.Swift.{marked, Flat, Ready, Stays, Strode, Sprinted};
 use machine::ArithOp;
 use machine::Effect;
 use machine::FrameOp;
@@ -110,104 +109,10 @@ fn reckon(w: &mut [u8], r: Registers, o: ArithOp) -> usize
     }
 }
 
-// ---- the others
-
-fn is_flat_work(x: Work) -> bool
-    ensures { λ b. ⌜ b ≡ flatWork x ⌝ }
-{
-    match x {
-        Work::Nothing => true,
-        Work::Fetch { j: _ } => true,
-        Work::Element { cell: _ } => true,
-        Work::Build { lower: _, count: _ } => false,
-        Work::Spell { start: _ } => false,
-        Work::Utter { start: _, len: _ } => true,
-        Work::Compose { start: _, len: _ } => false,
-        Work::Repeat { count: _ } => true,
-        Work::Turn { depth: _, first: _ } => true,
-        Work::Match(_, _) => true,
-        Work::Report(_) => true,
-    }
-}
-
-fn is_flat_next(x: Next) -> bool
-    ensures { λ b. ⌜ b ≡ flatNext x ⌝ }
-{
-    match x {
-        Next::Works(k) => is_flat_work(k),
-        Next::Inline {
-            start: _,
-            len: _,
-            owes: _,
-        } => false,
-        Next::Call {
-            origin: _,
-            start: _,
-            len: _,
-            first: _,
-        } => false,
-        Next::Store { j: _ } => true,
-        Next::Place { count: _ } => false,
-        Next::Remove { count: _ } => true,
-        Next::Tally => true,
-    }
-}
-
-fn is_flat(e: Effect) -> bool
-    ensures { λ b. ⌜ b ≡ flat e ⌝ }
-{
-    match e {
-        Effect::Fail => false,
-        Effect::Gives(_) => true,
-        Effect::Gives2(_, _) => true,
-        Effect::Acts(x) => is_flat_next(x),
-    }
-}
-
-// Operators that are never done here: those with a body, MARK, DO, DOSAVE, DOSAVEALL, MAKEVECLU, MAKEVEC.
-fn is_other(n: u16) -> bool {
-    match n {
-        110 | 114 | 120 | 186 | 231 | 232 | 233 | 239 | 240 | 241 | 282 | 283 => true,
-        _ => false,
-    }
-}
-
-// Any operator, through its effect.
-fn seldom<'a>(w: &mut [u8], r: Registers, pre: &'a [u8], body: &'a [u8], n: u16) -> usize
-    requires { ⌜ Busy (now w) r × Short (now pre) (now body) ⌝ }
-    ensures { λ h. ⌜ Flat (execute (both (now (pre .entry)) (now (body .entry))) (Plain n)) (now (w .entry)) r (now (w .exit)) h × (h ≤ 128 → roleOf n ≡ role.Plain) ⌝ }
-{
-    if is_other(n) {
-        return UNDONE;
-    }
-    let o = operators::numbering::op_of(n);
-    let a = operators::arity_of(o);
-    let t = state::stack::tops(w, r.height);
-    if a > t.count {
-        return UNDONE;
-    }
-    let x = state::values::value_of(t.first);
-    let y = state::values::value_of(t.second);
-    let e = operators::effect_of(o, x, y);
-    if is_flat(e) {
-        let mut q = r;
-        q.height = r.height - a;
-        return height_of(crate::works::affect(w, q, pre, body, e));
-    }
-    UNDONE
-}
-
 // An operator. No mark stands at the height `clear` or above.
-fn operate<'a>(
-    w: &mut [u8],
-    r: Registers,
-    pre: &'a [u8],
-    body: &'a [u8],
-    n: u16,
-    clear: usize,
-) -> usize
-    requires { ⌜ Busy (now w) r × Short (now pre) (now body) × (marked (now w) (r .height) ≤ clear) ⌝ }
-    ensures { λ h. ⌜ Flat (execute (both (now (pre .entry)) (now (body .entry))) (Plain n)) (now (w .entry)) r (now (w .exit)) h × (h ≤ 128 → roleOf n ≡ role.Plain) ⌝ }
+fn operate(w: &mut [u8], r: Registers, n: u16, clear: usize) -> usize
+    requires { ⌜ Busy (now w) r × (marked (now w) (r .height) ≤ clear) ⌝ }
+    ensures { λ h. ⌜ ((code : Code) → Flat (execute code (Plain n)) (now (w .entry)) r (now (w .exit)) h × (h ≤ 128 → roleOf n ≡ role.Plain)) ⌝ }
 {
     match n {
         1 => r.height,
@@ -217,7 +122,7 @@ fn operate<'a>(
         181 => height_of(state::stack::repeat(w, r, 1)),
         188 => height_of(state::marks::tally(w, r, clear)),
         201 | 204 | 210 | 214 => reckon(w, r, two_numbers(n)),
-        _ => seldom(w, r, pre, body, n),
+        _ => UNDONE,
     }
 }
 
@@ -226,7 +131,7 @@ fn operate<'a>(
 // A number or a name.
 fn sequence(w: &mut [u8], r: Registers, b: &[u8], at: usize) -> usize
     requires { ⌜ (length (now b) ≤ 16777215) × Good (now w) r × (0 < r .depth) × (r .steps < 4294967295) ⌝ }
-    ensures { λ h. ⌜ ((code : Code) → Ready code (now (b .entry)) at (now (w .entry)) r → Strode code at (now (w .entry)) r (now (w .exit)) h) ⌝ }
+    ensures { λ h. ⌜ Stays (now (w .entry)) r (now (w .exit)) h × ((code : Code) → Ready code (now (b .entry)) at (now (w .entry)) r → Strode code at (now (w .entry)) r (now (w .exit)) h) ⌝ }
 {
     let d = literals::reading::due(b, at);
     let x = d.literal;
@@ -243,30 +148,26 @@ fn sequence(w: &mut [u8], r: Registers, b: &[u8], at: usize) -> usize
     }
 }
 
-// The literal at `at`. If it is left undone, the running context may have gone past it.
-fn literal<'a>(
-    w: &mut [u8],
-    r: Registers,
-    pre: &'a [u8],
-    body: &'a [u8],
-    b: &[u8],
-    at: usize,
-    clear: usize,
-) -> usize
-    requires { ⌜ Ready (both (now pre) (now body)) (now b) at (now w) r × Short (now pre) (now body) × (marked (now w) (r .height) ≤ clear) ⌝ }
-    ensures { λ h. ⌜ Strode (both (now (pre .entry)) (now (body .entry))) at (now (w .entry)) r (now (w .exit)) h ⌝ }
+// The literal at `at`; of two bytes or less only if no comment follows it. If it is left undone, the running context may have gone past it.
+fn literal(w: &mut [u8], r: Registers, b: &[u8], at: usize, clear: usize) -> usize
+    requires { ⌜ (length (now b) ≤ 16777215) × Good (now w) r × (0 < r .depth) × (r .steps < 4294967295) × (marked (now w) (r .height) ≤ clear) ⌝ }
+    ensures { λ h. ⌜ Stays (now (w .entry)) r (now (w .exit)) h × ((code : Code) → Ready code (now (b .entry)) at (now (w .entry)) r → Strode code at (now (w .entry)) r (now (w .exit)) h) ⌝ }
 {
     match tokens::forms::form_at(b, at) {
         Form::Number { raw, next } => {
-            let past = skeleton::bodies::past_comments(b, next);
-            let q = state::bodies::begin(w, r, table::words::word(past));
-            let a = tokens::reading::short_value(raw);
-            height_of(state::stack::push_number(w, q, a))
+            if skeleton::bodies::is_solid(b, next) {
+                let q = state::bodies::begin(w, r, table::words::word(next));
+                let a = tokens::reading::short_value(raw);
+                return height_of(state::stack::push_number(w, q, a));
+            }
+            UNDONE
         }
         Form::Operator { number, next } => {
-            let past = skeleton::bodies::past_comments(b, next);
-            let q = state::bodies::begin(w, r, table::words::word(past));
-            operate(w, q, pre, body, number, clear)
+            if skeleton::bodies::is_solid(b, next) {
+                let q = state::bodies::begin(w, r, table::words::word(next));
+                return operate(w, q, number, clear);
+            }
+            UNDONE
         }
         Form::Sequence => sequence(w, r, b, at),
         Form::Cut => UNDONE,
@@ -275,17 +176,9 @@ fn literal<'a>(
 
 // Literals of the running body, whose bytes are b, as long as they can be executed here and the body goes on. `ok` says that the last one
 // has ended its body, which is still to be left.
-pub fn sprint<'a>(
-    w: &mut [u8],
-    start: Registers,
-    pre: &'a [u8],
-    body: &'a [u8],
-    b: &[u8],
-    origin: u32,
-    most: usize,
-) -> Registers
-    requires { ⌜ Good (now w) start × (0 < start .depth) × (start .skipping ≡ false) × (start .steps + most ≤ 1000000) × Short (now pre) (now body) × (now b ≡ bytesOf (both (now pre) (now body)) origin) ⌝ }
-    ensures { λ q. ⌜ Sprinted (both (now (pre .entry)) (now (body .entry))) most (now (w .entry)) start (now (w .exit)) q ⌝ }
+pub fn sprint(w: &mut [u8], start: Registers, b: &[u8], origin: u32, most: usize) -> Registers
+    requires { ⌜ Good (now w) start × (0 < start .depth) × (start .skipping ≡ false) × (start .steps + most ≤ 1000000) × (length (now b) ≤ 16777215) ⌝ }
+    ensures { λ q. ⌜ ((code : Code) → now (b .entry) ≡ bytesOf code origin → Sprinted code most (now (w .entry)) start (now (w .exit)) q) ⌝ }
 {
     let depth = start.depth;
     let clear = start.height;
@@ -297,7 +190,7 @@ pub fn sprint<'a>(
         if c.origin != origin {
             return r;
         }
-        let h = literal(w, r, pre, body, b, table::words::size(c.start), clear);
+        let h = literal(w, r, b, table::words::size(c.start), clear);
         if h > 128 {
             state::bodies::go_to(w, depth, c.start);
             return r;

@@ -1,3 +1,4 @@
 -- The laws, lowest first. Assumes nothing.
 pub mod Finding
+pub mod Passing
 pub mod Letters

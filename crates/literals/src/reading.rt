@@ -1,10 +1,15 @@
 // The literal at a place: through the token reader alone. A body operator with its body is one literal.
 ghost use mathlib.Core.Path.{_≡_};
-ghost use Prim.Native.Nat.{_≤_};
-ghost use lib.ListN.{length};
+ghost use Prim.Native.Nat.{_<_, _≤_};
+ghost use lib.ListN.{length, getD};
+ghost use Rattle.tokens.specs.Token.{tokenAt};
+ghost use Rattle.machine.proofs.Comments.{NoComment};
 ghost use Rattle.machine.specs.Literal.{found, nothingAt, holdingAt, operatorBy, foundAt};
 ghost use Rattle.machine.specs.Skeleton.{roleOf};
-ghost use Rattle.literals.specs.Dues.{Is};
+ghost use Rattle.machine.specs.Step.{isUnmark0};
+ghost use Rattle.literals.specs.Dues.{Is, Passes, Tells};
+use crate::Ahead;
+use crate::Bare;
 use crate::Due;
 use machine::Literal;
 
@@ -89,5 +94,90 @@ pub fn due(b: &[u8], at: usize) -> Due
             refusal: _,
             place: _,
         } => nothing(b),
+    }
+}
+
+// ---- literals told by their first bytes
+
+const UNTOLD: u16 = 0;
+
+// The operator without a body at `at`, if one stands there.
+pub fn bare_operator(b: &[u8], at: usize) -> Bare
+    ensures { λ r. ⌜ Tells (now (b .entry)) at r ⌝ }
+{
+    match tokens::forms::form_at(b, at) {
+        tokens::Form::Operator { number, next } => match skeleton::roles::role_of(number) {
+            machine::Role::Plain => Bare {
+                number,
+                next: skeleton::bodies::past_comments(b, next),
+            },
+            _ => Bare {
+                number: UNTOLD,
+                next: at,
+            },
+        },
+        _ => Bare {
+            number: UNTOLD,
+            next: at,
+        },
+    }
+}
+
+// ---- literals that are passed over
+
+fn is_unmark0(x: Literal) -> bool
+    ensures { λ r. ⌜ r ≡ isUnmark0 x ⌝ }
+{
+    match x {
+        Literal::Plain { number } => number == 192,
+        _ => false,
+    }
+}
+
+fn told(d: Due) -> Ahead
+    ensures { λ r. ⌜ (r .next ≡ d .next) × (r .unmarks ≡ isUnmark0 (d .literal)) ⌝ }
+{
+    let x = d.literal;
+    Ahead {
+        next: d.next,
+        unmarks: is_unmark0(x),
+    }
+}
+
+// A number, a name or a string, where no comment stands.
+fn past_sequence(b: &[u8], at: usize) -> Ahead
+    requires { ⌜ (length (now b) ≤ 16777215) × NoComment (tokenAt (now b) at) × ((at < length (now b)) × (192 ≤ getD (now b) at 0)) ⌝ }
+    ensures { λ r. ⌜ Passes (foundAt (now (b .entry)) at) r ⌝ }
+{
+    match tokens::passing::pass_sequence(b, at) {
+        tokens::Pass::Over { next } => Ahead {
+            next: skeleton::bodies::past_comments(b, next),
+            unmarks: false,
+        },
+        tokens::Pass::Unread {
+            refusal: _,
+            place: _,
+        } => told(nothing(b)),
+    }
+}
+
+// The literal at `at`, for skipping: most are not read but only passed over.
+pub fn ahead(b: &[u8], at: usize) -> Ahead
+    requires { ⌜ length (now b) ≤ 16777215 ⌝ }
+    ensures { λ r. ⌜ Passes (foundAt (now (b .entry)) at) r ⌝ }
+{
+    match tokens::forms::form_at(b, at) {
+        tokens::Form::Number { raw: _, next } => Ahead {
+            next: skeleton::bodies::past_comments(b, next),
+            unmarks: false,
+        },
+        tokens::Form::Operator { number, next } => told(operator(b, number, next)),
+        tokens::Form::Sequence => {
+            if skeleton::bodies::is_solid(b, at) {
+                return past_sequence(b, at);
+            }
+            told(due(b, at))
+        }
+        tokens::Form::Cut => told(nothing(b)),
     }
 }

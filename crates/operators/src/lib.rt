@@ -5,7 +5,7 @@ pub mod call; // 2.4.5
 pub mod control; // 2.4.5 and 2.4.7: operators that hold a body
 pub mod frame; // 2.4.4
 pub mod numbering; // an operator by its number
-mod operands; // how an operator reads its operands, and what it gives
+pub mod operands; // how an operator reads its operands, and what it gives
 pub mod stack; // 2.4.6
 pub mod test; // 2.4.8
 pub mod vector; // 2.4.3

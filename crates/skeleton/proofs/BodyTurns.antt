@@ -131,7 +131,7 @@ module _ (m : ℕ) (s : List ℕ) (at p : ℕ) (i : Kept m s at p) where
 
 -- ---- a token by its form
 
-abbrev NoOperator : Read → Type 0
+abbrev pub NoOperator : Read → Type 0
 NoOperator (read.Number value next) = Unit
 NoOperator (read.Identifier len next) = Unit
 NoOperator (read.String count next) = Unit
@@ -183,7 +183,7 @@ module _ (s : List ℕ) (p : ℕ) (f : Form) where
   pub operator-ends : (n next : ℕ) → f ≡ form.Operator n next → Shows s p f → (p < next) × (next ≤ length s)
   operator-ends n next e h = let g : EndsIn (length s) p (read.Operator n next) = rw (operator-shown n next e h) at (token-inside s p) in g
 
-  no-operator : f ≡ form.Sequence → Shows s p f → NoOperator (tokenAt s p)
+  pub no-operator : f ≡ form.Sequence → Shows s p f → NoOperator (tokenAt s p)
   no-operator e h =
       let g = sequence-shown e h in
       rw (token-sequence s p (g .0) (g .1)) (sequence-so NoOperator p (λ _ _. tt) (λ _ _. tt) (λ _ _. tt) (λ _ _. tt) (getD s p 0 % 32) (joinedAt s p) (λ _ _. tt))

@@ -15,7 +15,7 @@ use tokens::Pass;
 use tokens::Read;
 
 // By its first byte alone, no comment stands at `at`.
-fn is_solid(s: &[u8], at: usize) -> bool
+pub fn is_solid(s: &[u8], at: usize) -> bool
     ensures { λ r. ⌜ (r ≡ true → NoComment (tokenAt (now (s .entry)) at)) ⌝ }
 {
     if s.len() <= at {

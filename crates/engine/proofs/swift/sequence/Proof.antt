@@ -1,9 +1,10 @@
 -- `swift::sequence` meets its contract. Assumes nothing.
-use Rattle.engine.proofs.Swiftly.{figure-flat, name-flat, found-due, strode, strode-none}
+use Rattle.engine.proofs.Swiftly.{figure-flat, name-flat, found-due, strode, strode-none, stays, stays-none}
 use Rattle.engine.proofs.Level.{flat-of}
 use Rattle.engine.proofs.ByOrigin.{due-fits}
 use Rattle.engine.proofs.Stepping.{by-figure, by-name}
 use mathlib.Core.Path.{refl}
+use mathlib.Core.List.{[]}
 use native.Mathlib.Omega.{arith}
 use borrow.Author.Needs.{needs}
 use Rattle.engine.proofs.swift.sequence.Statement.{statement}
@@ -25,7 +26,7 @@ sequence-spec =
     (λ c κs. search needs)
     (λ c κs. search needs)
     (λ c. search needs)
-    (λ c. λ code ready. strode ready _ _ (c .before .before .before .before .before .before .before .before .word .ensures) (c .before .before .before .before .before .before .before .begin .ensures) _ _ (λ h. found-due _ _ _ (c .before .before .before .before .before .before .before .before .before .before .before .before .before .due .ensures) (c .before .before .before .before .before .before .before .before .before .before .before .x .given .1)) (flat-of _ _ (figure-flat _ _) _ _ (c .height-of .ensures) (by-figure _ _ _ refl (c .before .before .before .push-number .ensures))))
+    (λ c. (stays (c .before .before .before .before .before .before .before .begin .ensures) _ (flat-of [] _ (figure-flat _ _) _ _ (c .height-of .ensures) (by-figure _ _ _ refl (c .before .before .before .push-number .ensures))), λ code ready. strode ready _ _ (c .before .before .before .before .before .before .before .before .word .ensures) (c .before .before .before .before .before .before .before .begin .ensures) _ _ (λ h. found-due _ _ _ (c .before .before .before .before .before .before .before .before .before .before .before .before .before .due .ensures) (c .before .before .before .before .before .before .before .before .before .before .before .x .given .1)) (flat-of _ _ (figure-flat _ _) _ _ (c .height-of .ensures) (by-figure _ _ _ refl (c .before .before .before .push-number .ensures)))))
     (λ c. search needs)
-    (λ c. λ code ready. strode ready _ _ (c .before .before .before .before .before .before .before .before .word2 .ensures) (c .before .before .before .before .before .before .before .begin2 .ensures) _ _ (λ h. found-due _ _ _ (c .before .before .before .before .before .before .before .before .before .before .before .before .before .due .ensures) (c .before .before .before .before .before .before .before .before .before .before .before .x2 .given .1)) (flat-of _ _ (name-flat _ _ _) _ _ (c .height-of2 .ensures) (by-name _ _ _ _ refl (c .before .before .before .push-name .ensures))))
-    (λ c. λ code ready. strode-none ready _ (omega arith)))
+    (λ c. (stays (c .before .before .before .before .before .before .before .begin2 .ensures) _ (flat-of [] _ (name-flat _ _ _) _ _ (c .height-of2 .ensures) (by-name _ _ _ _ refl (c .before .before .before .push-name .ensures))), λ code ready. strode ready _ _ (c .before .before .before .before .before .before .before .before .word2 .ensures) (c .before .before .before .before .before .before .before .begin2 .ensures) _ _ (λ h. found-due _ _ _ (c .before .before .before .before .before .before .before .before .before .before .before .before .before .due .ensures) (c .before .before .before .before .before .before .before .before .before .before .before .x2 .given .1)) (flat-of _ _ (name-flat _ _ _) _ _ (c .height-of2 .ensures) (by-name _ _ _ _ refl (c .before .before .before .push-name .ensures)))))
+    (λ c. (stays-none _ (omega arith), λ code ready. strode-none ready _ (omega arith))))
