@@ -166,6 +166,17 @@ module _ {w w′ : List ℕ} {r r′ : Registers} (code : Code) (x : Literal) wh
 pub sized-holder : (x : Literal) (n s l : ℕ) → SizedLiteral x → x ≡ WithBody n s l → s + l < 4294967296
 sized-holder x n s l h e = rw e at h
 
+-- ---- the same registers
+
+pub tried-same : {f : State → Option State} {w w′ : List ℕ} {r r₁ q q₁ : Registers} → r₁ ≡ r → q ≡ q₁ → Tried f w r₁ w′ q₁ → Tried f w r w′ q
+tried-same e i t = rw (← e, i) t
+
+pub done-same : {f : State → State} {w w′ : List ℕ} {r q q₁ : Registers} → q ≡ q₁ → Done f w r w′ q₁ → Done f w r w′ q
+done-same i d = rw i d
+
+pub busy-same : {w : List ℕ} {r r₁ : Registers} → r₁ ≡ r → Busy w r → Busy w r₁
+busy-same e g = rw e g
+
 -- ---- a step
 
 -- the literal that is due holds a body whose end is a word

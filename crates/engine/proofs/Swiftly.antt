@@ -30,13 +30,13 @@ use Rattle.machine.specs.declared.Effect.{Effect}
 use Rattle.machine.specs.declared.Effect.the-variants.{Fail, Acts}
 use Rattle.machine.specs.declared.Next.the-variants.{Works, Call, Remove, Tally}
 use Rattle.machine.specs.declared.Next.the-variants as part
-use Rattle.machine.specs.declared.Work.the-variants.{Nothing, Repeat}
+use Rattle.machine.specs.declared.Work.the-variants.{Nothing, Repeat, Turn}
 use Rattle.machine.specs.declared.Op.{Op}
 use Rattle.machine.specs.declared.Op.the-variants.{OnVectors, OnFrame, Calls, OnStack, Tests, Reckons, Unknown}
 use Rattle.machine.specs.declared.FrameOp.{FrameOp}
 use Rattle.machine.specs.declared.FrameOp.the-variants.{Fget, Fset}
 use Rattle.machine.specs.declared.CallOp.the-variants.{Do}
-use Rattle.machine.specs.declared.StackOp.the-variants.{Pop, Dup, Mark, Count, Nop}
+use Rattle.machine.specs.declared.StackOp.the-variants.{Pop, Dup, Exch, Mark, Count, Nop}
 use Rattle.machine.specs.declared.ArithOp.{ArithOp}
 use Rattle.machine.specs.declared.ArithOp.the-variants.{Add, Sub, Mul, Div}
 use Rattle.machine.specs.State.{Entry, Context, State, running}
@@ -50,7 +50,7 @@ use Rattle.machine.specs.Ops.Call.{called, callEffect}
 use Rattle.machine.specs.Ops.Stack.{stackArity, stackEffect}
 use Rattle.machine.specs.Ops.Arith.{arithArity, arithEffect}
 use Rattle.machine.specs.Contexts.{above, beneath, fault, settle}
-use Rattle.machine.specs.Engine.{provided, pops, repeat, worked, place, remove, tally, call, does, affected}
+use Rattle.machine.specs.Engine.{provided, pops, repeat, turn, worked, place, remove, tally, call, does, affected}
 use Rattle.machine.specs.Step.{effectAt, execute, executed, isUnmark0, literalStep, begunIn, begun, stepBy, dueIn, step, run}
 use Rattle.machine.proofs.Inside.{token-inside}
 use Rattle.operators.specs.declared.Card.{Card}
@@ -130,9 +130,9 @@ op-role n o e k = pick (eqb n 107) refl (oneOf holders n) refl (oneOf barred n) 
 -- ---- operators by number
 
 -- the operators that have functions of their own
-by-number : (OnFrame Fget ≡ opOf 20) × (OnFrame Fset ≡ opOf 21) × (OnStack Pop ≡ opOf 180) × (OnStack Dup ≡ opOf 181) × (OnStack Count ≡ opOf 188) × (OnStack Nop ≡ opOf 1) × (Calls Do ≡ opOf 231) × (Reckons Add ≡ opOf 201) × (Reckons Div ≡ opOf 204) × (Reckons Mul ≡ opOf 210) × (Reckons Sub ≡ opOf 214) × (OnStack Mark ≡ opOf 186)
+by-number : (OnFrame Fget ≡ opOf 20) × (OnFrame Fset ≡ opOf 21) × (OnStack Pop ≡ opOf 180) × (OnStack Dup ≡ opOf 181) × (OnStack Count ≡ opOf 188) × (OnStack Nop ≡ opOf 1) × (Calls Do ≡ opOf 231) × (Reckons Add ≡ opOf 201) × (Reckons Div ≡ opOf 204) × (Reckons Mul ≡ opOf 210) × (Reckons Sub ≡ opOf 214) × (OnStack Mark ≡ opOf 186) × (OnStack Exch ≡ opOf 185)
 unfolding opOf opIn operators
-by-number = (refl, refl, refl, refl, refl, refl, refl, refl, refl, refl, refl, refl)
+by-number = (refl, refl, refl, refl, refl, refl, refl, refl, refl, refl, refl, refl, refl)
 
 -- ADD, DIV, MUL, SUB
 module _ (n : ℕ) where
@@ -179,15 +179,15 @@ pop-effect : (x y : Value) → Acts (Works Nothing) ≡ effectOf (OnStack Pop) x
 unfolding effectOf stackEffect
 pop-effect x y = refl
 
--- DUP, COUNT, NOP and UNMARK0 pop nothing before the engine's part
-pops-none : (popped (Plain 181) ≡ 0) × (popped (Plain 188) ≡ 0) × (popped (Plain 1) ≡ 0) × (popped (Plain 192) ≡ 0)
+-- DUP, COUNT, NOP, UNMARK0 and EXCH pop nothing before the engine's part
+pops-none : (popped (Plain 181) ≡ 0) × (popped (Plain 188) ≡ 0) × (popped (Plain 1) ≡ 0) × (popped (Plain 192) ≡ 0) × (popped (Plain 185) ≡ 0)
 unfolding popped opOf opIn operators arityOf stackArity
-pops-none = (refl, refl, refl, refl)
+pops-none = (refl, refl, refl, refl, refl)
 
 -- which is this
-own-part : (x y : Value) → (performed (Plain 181) x y ≡ Acts (Works (Repeat 1))) × (performed (Plain 188) x y ≡ Acts Tally) × (performed (Plain 1) x y ≡ Acts (Works Nothing)) × (performed (Plain 192) x y ≡ Acts (Remove 0))
+own-part : (x y : Value) → (performed (Plain 181) x y ≡ Acts (Works (Repeat 1))) × (performed (Plain 188) x y ≡ Acts Tally) × (performed (Plain 1) x y ≡ Acts (Works Nothing)) × (performed (Plain 192) x y ≡ Acts (Remove 0)) × (performed (Plain 185) x y ≡ Acts (Works (Turn 2 1)))
 unfolding performed opOf opIn operators effectOf stackEffect
-own-part x y = (refl, refl, refl, refl)
+own-part x y = (refl, refl, refl, refl, refl)
 
 once-flat : (n : ℕ) (e : Effect) → ((x y : Value) → performed (Plain n) x y ≡ e) → (s : State) → flat e ≡ true → flat (effectAt (Plain n) s) ≡ true
 unfolding effectAt
@@ -201,6 +201,10 @@ module _ {w w′ : List ℕ} {r : Registers} (code : Code) where
   repeats : {r′ : Registers} → Tried (repeat 1) w r w′ r′ → Tried (affected code (Acts (Works (Repeat 1)))) w r w′ r′
   unfolding affected does worked
   repeats t = t
+
+  turns : {r′ : Registers} → Tried (turn 2 1) w r w′ r′ → Tried (affected code (Acts (Works (Turn 2 1)))) w r w′ r′
+  unfolding affected does worked
+  turns t = t
 
   tallies : {r′ : Registers} → Tried tally w r w′ r′ → Tried (affected code (Acts Tally)) w r w′ r′
   unfolding affected does
@@ -225,6 +229,11 @@ module _ {w w′ : List ℕ} {r : Registers} (code : Code) where
     is-dup e t =
         rw e
         (flat-of code (Plain 181) (once-flat 181 (Acts (Works (Repeat 1))) (λ x y. own-part x y .0) (abs w r) refl) h p a (at-once 181 (Acts (Works (Repeat 1))) (pops-none .0) (λ x y. own-part x y .0) (repeats t)), λ _. op-role 181 (OnStack Dup) (by-number .3) refl)
+
+    pub is-exch : n ≡ 185 → Tried (turn 2 1) w r w′ p → Flat (execute code (Plain n)) w r w′ h × (h ≤ 128 → roleOf n ≡ role.Plain)
+    is-exch e t =
+        rw e
+        (flat-of code (Plain 185) (once-flat 185 (Acts (Works (Turn 2 1))) (λ x y. own-part x y .4) (abs w r) refl) h p a (at-once 185 (Acts (Works (Turn 2 1))) (pops-none .4) (λ x y. own-part x y .4) (turns t)), λ _. op-role 185 (OnStack Exch) (by-number .12) refl)
 
     pub is-count : n ≡ 188 → Tried tally w r w′ p → Flat (execute code (Plain n)) w r w′ h × (h ≤ 128 → roleOf n ≡ role.Plain)
     is-count e t =

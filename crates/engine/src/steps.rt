@@ -74,6 +74,21 @@ fn execute<'a>(w: &mut [u8], r: Registers, pre: &'a [u8], body: &'a [u8], x: Lit
 
 // ---- operators on ways of their own
 
+// The same registers, field by field, so that the compiler keeps them out of memory around a call.
+fn afresh(r: Registers) -> Registers
+    ensures { λ q. ⌜ q ≡ r ⌝ }
+{
+    Registers {
+        height: r.height,
+        depth: r.depth,
+        used: r.used,
+        steps: r.steps,
+        errors: r.errors,
+        skipping: r.skipping,
+        ok: r.ok,
+    }
+}
+
 fn mark(w: &mut [u8], r: Registers) -> Registers
     requires { ⌜ Busy (now w) r ⌝ }
     ensures { λ q. ⌜ ((code : Code) → Tried (execute code (Plain 186)) (now (w .entry)) r (now (w .exit)) q) ⌝ }
@@ -122,10 +137,10 @@ fn operator<'a>(w: &mut [u8], r: Registers, pre: &'a [u8], body: &'a [u8], n: u1
     ensures { λ q. ⌜ Tried (execute (both (now (pre .entry)) (now (body .entry))) (Plain n)) (now (w .entry)) r (now (w .exit)) q ⌝ }
 {
     match n {
-        186 => mark(w, r),
+        186 => afresh(mark(w, afresh(r))),
         192 => state::marks::remove(w, r, 0),
-        231 => run_operator(w, r, pre, body),
-        _ => plain(w, r, pre, body, n),
+        231 => afresh(run_operator(w, afresh(r), pre, body)),
+        _ => afresh(plain(w, afresh(r), pre, body, n)),
     }
 }
 
@@ -151,7 +166,7 @@ fn literal<'a>(
     let d = literals::reading::due(b, at);
     let q = state::bodies::begin(w, r, table::words::word(d.next));
     let x = d.literal;
-    execute(w, q, pre, body, x)
+    afresh(execute(w, afresh(q), pre, body, x))
 }
 
 // A step with a literal that is not passed over.
@@ -163,11 +178,11 @@ fn pace<'a>(w: &mut [u8], r: Registers, pre: &'a [u8], body: &'a [u8]) -> Regist
     let b = crate::origins::bytes_of(pre, body, c.origin);
     let p = literal(w, r, pre, body, b, table::words::size(c.start));
     if p.ok {
-        return state::recovery::settle(w, p);
+        return afresh(state::recovery::settle(w, p));
     }
     let mut q = r;
     q.steps = r.steps + 1;
-    state::recovery::fault(w, q)
+    afresh(state::recovery::fault(w, q))
 }
 
 // ---- several steps
@@ -200,7 +215,7 @@ fn pass<'a>(w: &mut [u8], start: Registers, pre: &'a [u8], body: &'a [u8], most:
             return r;
         }
         let q = state::bodies::begin(w, r, table::words::word(d.next));
-        r = state::recovery::skipped(w, q);
+        r = afresh(state::recovery::skipped(w, q));
         r.ok = false;
         left -= 1;
         if r.depth == depth {
@@ -221,7 +236,7 @@ fn lead<'a>(w: &mut [u8], r: Registers, pre: &'a [u8], body: &'a [u8], most: usi
     }
     let p = stretch(w, r, pre, body, most);
     if p.ok {
-        let mut q = state::recovery::settle(w, p);
+        let mut q = afresh(state::recovery::settle(w, p));
         q.ok = false;
         return q;
     }
@@ -261,7 +276,7 @@ pub fn run<'a>(
         }
         let q = onward(w, r, pre, body, left);
         left -= q.steps - r.steps;
-        r = q;
+        r = afresh(q);
     }
     r
 }

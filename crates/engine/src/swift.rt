@@ -120,6 +120,7 @@ fn operate(w: &mut [u8], r: Registers, n: u16, clear: usize) -> usize
         21 => framed(w, r, FrameOp::Fset),
         180 => pop(w, r),
         181 => height_of(state::stack::repeat(w, r, 1)),
+        185 => height_of(state::stack::exchange(w, r)),
         188 => height_of(state::marks::tally(w, r, clear)),
         201 | 204 | 210 | 214 => reckon(w, r, two_numbers(n)),
         _ => UNDONE,

@@ -13,10 +13,11 @@ use Rattle.table.specs.declared.Slot.{Slot}
 use Rattle.table.specs.Slots.{nil, mk, slots, desc, copied}
 use Rattle.table.proofs.Moves.{Same, same-set, same-copied, same-then, length-copied, rolled}
 use Rattle.machine.specs.declared.Value.{Value}
-use Rattle.machine.specs.State.{Entry, val, mark, running}
+use Rattle.machine.specs.State.{Entry, val, mark, State, running}
 use Rattle.machine.specs.Contexts.{above, beneath, over}
-use Rattle.machine.specs.Engine.{limited, provided, withStack, values, push, repeat, turn}
+use Rattle.machine.specs.Engine.{limited, provided, withStack, values, pops, push, repeat, turn}
 use Rattle.state.specs.declared.Registers.{Registers}
+use Rattle.state.specs.declared.Tops.{Tops}
 use Rattle.state.specs.Layout.{valueIn, entryIn, stackOf, contextIn, contextsOf, abs, Busy, Tried}
 use lib.Dec.{leb·suc-suc}
 use Rattle.state.specs.Layout.{Topmost}
@@ -24,7 +25,7 @@ use Rattle.state.specs.Operations.{pushTwo, utter}
 use Rattle.state.proofs.Coding.{name-slot}
 use Rattle.state.proofs.Parts.{wide, room-of, stack-same, contexts-at, stack-at, stack-more, length-stack}
 use Rattle.state.proofs.Cutting.{over-take, over-above, over-drop, entriesAt, length-entries, stack-taken, stack-dropped, stack-joined, entries-moved, entries-drop, entries-rolled}
-use Rattle.state.proofs.Trying.{trying, failed, tried-no, tried-yes, tried-as, aside-above, stack-only, fits-stack, full-stack}
+use Rattle.state.proofs.Trying.{trying, failed, tried-no, tried-yes, tried-as, tried-from, pops-is, aside-above, stack-only, fits-stack, full-stack}
 use Rattle.machine.specs.State as state
 
 -- ---- how many there are
@@ -295,3 +296,46 @@ module _ {w : List ℕ} {r : Registers} (n : ℕ) (b : Bool) (g : Busy w r) (eb 
           rw p (ap (stackOf m′) e ∙ entries-rolled m a n j jn (omega arith) (omega arith) ∙
           ap (λ k. entriesAt m a (n - j) ++ (entriesAt m k j ++ stackOf m a)) e′) in
           rw q (tried-yes (omega arith) (aside-above w w′ sm) refl refl (turn-is ∙ fits-stack w r turned g (omega (arith, turned-long)) ∙ ap some (sym (stack-only w w′ r h turned g sm st))))
+
+-- ---- EXCH
+
+-- two slots with the same values
+pub two-as : {w w′ : List ℕ} {r r′ : Registers} (v u : Value) (x y : Slot) → valueIn x ≡ v → valueIn y ≡ u → Tried (pushTwo (valueIn x) (valueIn y)) w r w′ r′ → Tried (pushTwo v u) w r w′ r′
+two-as v u x y ex ey t = rw (← ex, ← ey) t
+
+-- two values taken off and put back in the other order
+swapped : (s : State) (vs : List Value) → values s ≡ vs → 2 ≤ length vs → turn 2 1 s ≡ pushTwo (getD vs 0 state.zero) (getD vs 1 state.zero) (pops 2 s)
+unfolding turn pushTwo push pops over provided
+swapped s [] e h = absurd (omega arith)
+swapped s (x ∷ []) e h = absurd (omega arith)
+swapped s (x ∷ y ∷ vs) e h = rw (e, le-leb 2 (length (x ∷ y ∷ vs)) h)
+
+module _ {w : List ℕ} {r : Registers} (t : Tops) (g : Busy w r) (et : Topmost (above (stackOf (slots w) (r .height))) t) where
+  pub exchange-few : {r′ : Registers} → t .count < 2 → r′ ≡ failed r → Tried (turn 2 1) w r w r′
+  unfolding turn provided
+  exchange-few {r′} h q =
+      let vs = above (stackOf (slots w) (r .height)) in
+      tried-no g (rw (lt-leb 2 (length vs) (fewer vs (omega (arith, et .count))))) q
+    where
+      fewer : (l : List Value) → length (take 2 l) < 2 → length l < 2
+      fewer [] k = k
+      fewer (x ∷ []) k = k
+      fewer (x ∷ y ∷ l) k = absurd (omega arith)
+
+  pub two-high : 2 ≤ t .count → 2 ≤ length (above (stackOf (slots w) (r .height)))
+  two-high h = enough (above (stackOf (slots w) (r .height))) (omega (arith, et .count))
+    where
+      enough : (l : List Value) → 2 ≤ length (take 2 l) → 2 ≤ length l
+      enough [] k = k
+      enough (x ∷ []) k = k
+      enough (x ∷ y ∷ l) k = omega arith
+
+  pub exchange-fits : 2 ≤ t .count → 2 ≤ r .height
+  exchange-fits h = omega (arith, two-high h, above-few (stackOf (slots w) (r .height)), length-stack (slots w) (r .height))
+
+  pub exchange-yes : {w′ : List ℕ} {q r′ : Registers} (x y : Slot) → 2 ≤ t .count → valueIn x ≡ valueIn (t .first) → valueIn y ≡ valueIn (t .second) → q ≡ trying r (r .height - 2) (r .depth) (r .used) (r .ok)
+      → Tried (pushTwo (valueIn x) (valueIn y)) w q w′ r′ → Tried (turn 2 1) w r w′ r′
+  exchange-yes {w′} {q} {r′} x y h ex ey eq d =
+      let vs = above (stackOf (slots w) (r .height)) in
+      let z : length vs ≤ r .height = omega (arith, above-few (stackOf (slots w) (r .height)), length-stack (slots w) (r .height)) in
+      tried-from (swapped (abs w r) vs refl (two-high h) ∙ (rw (eq, pops-is w r 2 (length vs) (r .ok) (two-high h) z refl, ex, ey, et .first, et .second))) (rw eq) d

@@ -131,23 +131,47 @@ pub fn push_name(w: &mut [u8], r: Registers, start: u32, len: u32) -> Registers
     )
 }
 
-// Two numbers, the second on top.
-pub fn push_two(w: &mut [u8], r: Registers, a: numbers::Number, b: numbers::Number) -> Registers
-    requires { ⌜ Busy (now w) r ⌝ }
-    ensures { λ q. ⌜ Tried (pushTwo (Number a) (Number b)) (now (w .entry)) r (now (w .exit)) q ⌝ }
+// Two values, the second on top.
+fn push_slots(w: &mut [u8], r: Registers, v: Slot, u: Slot) -> Registers
+    requires { ⌜ Busy (now w) r × (v .kind ≡ 5 → ⊥) × (u .kind ≡ 5 → ⊥) ⌝ }
+    ensures { λ q. ⌜ Tried (pushTwo (valueIn v) (valueIn u)) (now (w .entry)) r (now (w .exit)) q ⌝ }
 {
     let height = r.height;
     if height >= 127 {
         return failed(r);
     }
-    let x = crate::values::number_slot(a);
-    let y = crate::values::number_slot(b);
-    table::slots::put(w, height, x);
-    table::slots::put(w, height + 1, y);
+    table::slots::put(w, height, v);
+    table::slots::put(w, height + 1, u);
     let mut q = r;
     q.height = height + 2;
     q.ok = true;
     q
+}
+
+// Two numbers, the second on top.
+pub fn push_two(w: &mut [u8], r: Registers, a: numbers::Number, b: numbers::Number) -> Registers
+    requires { ⌜ Busy (now w) r ⌝ }
+    ensures { λ q. ⌜ Tried (pushTwo (Number a) (Number b)) (now (w .entry)) r (now (w .exit)) q ⌝ }
+{
+    let x = crate::values::number_slot(a);
+    let y = crate::values::number_slot(b);
+    push_slots(w, r, x, y)
+}
+
+// EXCH: the two topmost values change places.
+pub fn exchange(w: &mut [u8], r: Registers) -> Registers
+    requires { ⌜ Busy (now w) r ⌝ }
+    ensures { λ q. ⌜ Tried (turn 2 1) (now (w .entry)) r (now (w .exit)) q ⌝ }
+{
+    let t = tops(w, r.height);
+    if t.count < 2 {
+        return failed(r);
+    }
+    let x = crate::values::plain(t.first);
+    let y = crate::values::plain(t.second);
+    let mut q = r;
+    q.height = r.height - 2;
+    push_slots(w, q, x, y)
 }
 
 // COPY: the topmost n values once more.

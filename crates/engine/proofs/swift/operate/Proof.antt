@@ -1,7 +1,7 @@
 use Rattle.engine.proofs.Level.{flat-undone}
 use native.Mathlib.Omega.{arith}
+use Rattle.engine.proofs.Swiftly.{is-nop, is-fget, is-fset, is-pop, is-dup, is-exch, is-count, is-reckon}
 use borrow.Author.Needs.{needs}
-use Rattle.engine.proofs.Swiftly.{is-nop, is-fget, is-fset, is-pop, is-dup, is-count, is-reckon}
 use Rattle.engine.proofs.swift.operate.Statement.{statement}
 use Rattle.engine.proofs.swift.operate.Tie as tie
 use Rattle.engine.proofs.swift.operate.Reads as reads
@@ -12,6 +12,7 @@ use Rattle.engine.proofs.swift.pop.Reads as pop-reads
 use Rattle.engine.proofs.swift.reckon.Reads as reckon-reads
 use Rattle.engine.proofs.swift.two_numbers.Reads as two-numbers-reads
 use Rattle.state.proofs.marks.tally.Reads as tally-reads
+use Rattle.state.proofs.stack.exchange.Reads as exchange-reads
 use Rattle.state.proofs.stack.repeat.Reads as repeat-reads
 
 -- src/swift.rt:119:15
@@ -35,18 +36,26 @@ height-of-requires : tie.Need-height-of-requires
 height-of-requires c κs = search needs
 
 -- src/swift.rt:123:26
-tally-requires : tie.Need-tally-requires
-tally-requires c κs = search needs
+exchange-requires : tie.Need-exchange-requires
+exchange-requires c κs = search needs
 
 -- src/swift.rt:123:16
 height-of-requires-2 : tie.Need-height-of-requires-2
 height-of-requires-2 c κs = search needs
 
--- src/swift.rt:124:47
-two-numbers-requires : tie.Need-two-numbers-requires
-two-numbers-requires c κs = c .before .match .keys7
+-- src/swift.rt:124:26
+tally-requires : tie.Need-tally-requires
+tally-requires c κs = search needs
 
--- src/swift.rt:124:34
+-- src/swift.rt:124:16
+height-of-requires-3 : tie.Need-height-of-requires-3
+height-of-requires-3 c κs = search needs
+
+-- src/swift.rt:125:47
+two-numbers-requires : tie.Need-two-numbers-requires
+two-numbers-requires c κs = c .before .match .keys8
+
+-- src/swift.rt:125:34
 reckon-requires : tie.Need-reckon-requires
 reckon-requires c κs = (c .before .before .before .before .pre .0, c .two-numbers .ensures .1)
 
@@ -92,7 +101,7 @@ same-length-5 c = search needs
 
 -- src/swift.rt:113:1
 returns-6 : tie.Need-returns-6
-returns-6 c = λ code. is-count code _ _ _ (c .height-of2 .ensures) (c .before .before .before .before .before .match .keys6) (c .before .before .before .tally .ensures)
+returns-6 c = λ code. is-exch code _ _ _ (c .height-of2 .ensures) (c .before .before .before .before .before .match .keys6) (c .before .before .before .exchange .ensures)
 
 -- src/swift.rt:113:1
 same-length-6 : tie.Need-same-length-6
@@ -100,11 +109,19 @@ same-length-6 c = search needs
 
 -- src/swift.rt:113:1
 returns-7 : tie.Need-returns-7
-returns-7 c = λ code. is-reckon code _ _ _ (c .before .before .before .two-numbers .ensures .0) (c .before .before .reckon .ensures)
+returns-7 c = λ code. is-count code _ _ _ (c .height-of3 .ensures) (c .before .before .before .before .before .match .keys7) (c .before .before .before .tally .ensures)
+
+-- src/swift.rt:113:1
+same-length-7 : tie.Need-same-length-7
+same-length-7 c = search needs
 
 -- src/swift.rt:113:1
 returns-8 : tie.Need-returns-8
-returns-8 c = λ code. (flat-undone _ (omega arith), λ h. absurd (omega arith))
+returns-8 c = λ code. is-reckon code _ _ _ (c .before .before .before .two-numbers .ensures .0) (c .before .before .reckon .ensures)
+
+-- src/swift.rt:113:1
+returns-9 : tie.Need-returns-9
+returns-9 c = λ code. (flat-undone _ (omega arith), λ h. absurd (omega arith))
 
 pub operate-spec : {M : Type 1} → statement M
 operate-spec =
@@ -115,8 +132,10 @@ operate-spec =
     pop-requires
     repeat-requires
     height-of-requires
-    tally-requires
+    exchange-requires
     height-of-requires-2
+    tally-requires
+    height-of-requires-3
     two-numbers-requires
     reckon-requires
     returns
@@ -132,4 +151,6 @@ operate-spec =
     returns-6
     same-length-6
     returns-7
-    returns-8)
+    same-length-7
+    returns-8
+    returns-9)
