@@ -23,7 +23,6 @@ use Rattle.literals.specs.declared.Ahead.{Ahead}
 use Rattle.literals.specs.declared.Due.{Due}
 use Rattle.literals.specs.Dues.{Is, Passes}
 use Rattle.literals.proofs.Passing.{comments-end, solid-inside}
-use Rattle.state.specs.declared.Place.{Place}
 use Rattle.literals.specs.Names.{both}
 use Rattle.engine.specs.Bodies.{Short}
 
@@ -92,7 +91,3 @@ due-fits b at d l i = omega (arith, i .next, next-inside b at)
 
 pub ahead-fits : (b : List ℕ) (at : ℕ) (a : Ahead) → length b ≤ 16777215 → Passes (foundAt b at) a → a .next < 4294967296
 ahead-fits b at a l p = omega (arith, p .next, next-inside b at)
-
--- the literal that is due in the running body, whose bytes are b
-pub due-here : (pre body b : List ℕ) (c : Place) (at : ℕ) (d : Due) → b ≡ bytesOf (both pre body) (c .origin) → at ≡ c .start → Is (foundAt b at) d → Is (foundAt (bytesOf (both pre body) (c .origin)) (c .start)) d
-due-here pre body b c at d eb ea i = rw (← eb, ← ea) i

@@ -38,7 +38,7 @@ use Rattle.operators.specs.Sizes.{Small}
 use Rattle.state.specs.declared.Place.{Place}
 use Rattle.state.specs.declared.Registers.{Registers}
 use Rattle.state.specs.declared.Tops.{Tops}
-use Rattle.state.specs.Layout.{half, valueIn, stackOf, contextsOf, abs, Good, Busy, Done, answer, Tried, Begun, Topmost}
+use Rattle.state.specs.Layout.{half, valueIn, stackOf, contextsOf, abs, Busy, Done, answer, Tried, Begun, Topmost}
 use Rattle.state.specs.Operations as table
 use Rattle.state.proofs.Parts.{contexts-top, length-stack}
 use Rattle.state.proofs.Cutting.{over-above}
@@ -46,8 +46,7 @@ use Rattle.state.proofs.Trying.{trying, failed, tried-no, tried-as, tried-from,
 use Rattle.state.proofs.Stacking.{above-few}
 use Rattle.state.proofs.Ending.{not-on}
 use Rattle.engine.specs.Swift.{Flat, Executes}
-use Rattle.engine.specs.Bodies.{Short, SizedLiteral, Stepped}
-use Rattle.engine.proofs.ByOrigin.{bytes-short}
+use Rattle.engine.specs.Bodies.{SizedLiteral, Stepped}
 use Rattle.engine.proofs.Acting.{is-fail}
 use Rattle.engine.proofs.Level.{flat, flat-of}
 
@@ -189,9 +188,6 @@ sized-due b at d h i = rw (i .literal) (sized (foundAt b at .literal) (length b)
     sized (Text s) n l k = tt
     sized (Plain m) n l k = tt
     sized (WithBody m s z) n l k = omega arith
-
-pub sized-here : (pre body : List ℕ) (o at : ℕ) (d : Due) → Short pre body → Is (foundAt (bytesOf (both pre body) o) at) d → SizedLiteral (d .literal)
-sized-here pre body o at d h i = sized-due (bytesOf (both pre body) o) at d (bytes-short pre body o h) i
 
 -- the running context stands at this depth
 pub here-at : (w : List ℕ) (r : Registers) (c : Place) (depth : ℕ) → r .depth ≡ depth → (c .origin ≡ running (contextsOf (slots w) depth) .origin) × (c .start ≡ running (contextsOf (slots w) depth) .at) → (c .origin ≡ running (contextsOf (slots w) (r .depth)) .origin) × (c .start ≡ running (contextsOf (slots w) (r .depth)) .at)

@@ -72,7 +72,6 @@ use Rattle.state.proofs.Entering.{goes-home, goes-nowhere}
 use Rattle.state.proofs.Ending.{not-on}
 use Rattle.engine.specs.Bodies.{Short, Stepped}
 use Rattle.engine.specs.Swift.{marked, raised, Flat, stepped, Executes, Ready, Stays, Strode, Attempted, Sprinted, Led, Onward}
-use Rattle.literals.proofs.Passing.{solid-inside}
 use Rattle.engine.proofs.ByOrigin.{bytes-short}
 use Rattle.engine.proofs.Acting.{nothing-done, is-acts, by-call, by-place}
 use Rattle.engine.proofs.Level.{flat, flat-made, flat-of}
@@ -384,9 +383,6 @@ module _ {code : Code} {b w : List ℕ} {at : ℕ} {r : Registers} (ready : Read
 
 pub bytes-fit : (pre body b : List ℕ) {at : ℕ} {w : List ℕ} {r : Registers} → Ready (both pre body) b at w r → Short pre body → length b ≤ 16777215
 bytes-fit pre body b {at} {w} {r} ready short = rw (ready .bytes) (bytes-short pre body (running (contextsOf (slots w) (r .depth)) .origin) short)
-
-pub past-word : (pre body b : List ℕ) {at : ℕ} {w : List ℕ} {r : Registers} (next past : ℕ) → Ready (both pre body) b at w r → Short pre body → next ≤ length b → past ≡ solid b next → past < 4294967296
-past-word pre body b next past ready short h e = omega (arith, bytes-fit pre body b ready short, e, solid-inside b next h)
 
 -- ---- DO
 

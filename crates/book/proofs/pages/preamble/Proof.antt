@@ -1,6 +1,6 @@
 -- `pages::preamble` meets its contract. Assumes nothing.
 use Rattle.book.proofs.Ending.{preamble-ends}
-use Rattle.engine.proofs.ByOrigin.{solid-inside}
+use Rattle.literals.proofs.Passing.{solid-inside}
 use mathlib.Core.Path.{_∙_}
 use native.Mathlib.Omega.{arith}
 use borrow.Author.Needs.{needs}
