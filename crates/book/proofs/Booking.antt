@@ -26,9 +26,9 @@ use Rattle.machine.specs.Promise.{accepted, unfinished, halted, finished, over,
 use Rattle.state.specs.declared.Registers.{Registers}
 use Rattle.state.specs.Layout.{abs}
 use Rattle.skeleton.specs.Spans.{Placed}
-use Rattle.book.specs.Ran.{Preambled, Ready, Holds, Goes, Admitted, RanAll}
-use Rattle.book.proofs.Admitting.{natural-is, steps-fit}
-use Rattle.book.proofs.Walking.{rows-long}
+use Rattle.prints.specs.Ran.{Preambled, Ready, Holds, Goes, Admitted, RanAll}
+use Rattle.prints.proofs.Admitting.{natural-is, steps-fit}
+use Rattle.prints.proofs.Walking.{rows-long}
 
 -- a table of just the size, cleared
 pub clear-all : (w : List ℕ) → length w ≡ scratchSize → zeroed scratchSize w ≡ replicate scratchSize 0

@@ -24,10 +24,10 @@ use Rattle.machine.specs.Promise.{Verdict, accepted, unfinished, halted, finish
 use Rattle.state.specs.declared.Registers.{Registers}
 use Rattle.state.specs.Layout.{abs}
 use Rattle.skeleton.specs.Spans.{Placed}
-use Rattle.book.specs.Ran.{Preambled, Paged, Goes, Admitted, Holds, Shown, Reprinted}
-use Rattle.book.proofs.Admitting.{natural-is, steps-fit}
-use Rattle.book.proofs.Walking.{row-long, result-at}
-use Rattle.book.proofs.Paging.{result-is}
+use Rattle.prints.specs.Ran.{Preambled, Paged, Goes, Admitted, Holds, Shown, Reprinted}
+use Rattle.prints.proofs.Admitting.{natural-is, steps-fit}
+use Rattle.prints.proofs.Walking.{row-long, result-at}
+use Rattle.prints.proofs.Paging.{result-is}
 use Rattle.book.proofs.Booking.{ends, ran-out, ran-on, ready-of, scratch-clear}
 
 splices : (at : ℕ) (b l : List ℕ) → at + length b ≤ length l → sets l at b ≡ spliced at b l

@@ -8,7 +8,7 @@ ghost use Rattle.machine.specs.Limits.{scratchSize};
 ghost use Rattle.machine.specs.Page.{resultOf, resultAt};
 ghost use Rattle.skeleton.specs.Spans.{Placed};
 ghost use Rattle.state.specs.Layout.{abs, Good};
-ghost use Rattle.book.specs.Ran.{Preambled, Holds, RanAll, Shown, Reprinted};
+ghost use Rattle.prints.specs.Ran.{Preambled, Holds, RanAll, Shown, Reprinted};
 use state::Registers;
 use tokens::Outcome;
 use tokens::refusals::refused;
@@ -39,13 +39,13 @@ pub fn run_all(
     requires { ⌜ Holds (now s) (now places) last × (length (now s) ≤ 16777215) × (allowance ≤ 1000000) × (length (now w) ≡ 48000) × (8208 ≤ length (now rows)) ⌝ }
     ensures { λ r. ⌜ ((bodies : List (List ℕ)) → Placed (now (s .entry)) (now (places .entry)) bodies → length bodies ≡ last + 1 → RanAll allowance bodies (now (w .exit)) (now (rows .entry)) (now (rows .exit)) r) ⌝ }
 {
-    let q = crate::walks::preamble_of(w, s, places[0], places[1], allowance);
-    if crate::rows::outcome_of(q) == OUT_OF_STEPS {
+    let q = prints::walks::preamble_of(w, s, places[0], places[1], allowance);
+    if prints::rows::outcome_of(q) == OUT_OF_STEPS {
         wipe(w);
         return refused(tokens::Refusal::PreambleUnfinished, 0);
     }
-    crate::rows::put_row(rows, 0, q, 0);
-    crate::walks::every_page(w, s, places, last, q.used, allowance, rows);
+    prints::rows::put_row(rows, 0, q, 0);
+    prints::walks::every_page(w, s, places, last, q.used, allowance, rows);
     wipe(w);
     Outcome::Done { value: last }
 }
@@ -55,8 +55,8 @@ fn show(w: &[u8], q: Registers, before: usize, page: usize, rows: &mut [u8], sec
     requires { ⌜ Good (now w) q × (q .steps ≤ 1000000) × (before ≤ q .used) × (16 * page + 16 ≤ length (now rows)) × (24052 ≤ length (now sections)) ⌝ }
     ensures { λ _. ⌜ Shown (resultOf before (abs (now (w .entry)) q)) page (now (rows .entry)) (now (rows .exit)) (now (sections .entry)) (now (sections .exit)) ⌝ }
 {
-    crate::rows::put_row(rows, page, q, before);
-    state::sections::put_sections(sections, w, q, before);
+    prints::rows::put_row(rows, page, q, before);
+    store::sections::put_sections(sections, w, q, before);
 }
 
 // The result of one body, shown: the preamble's, which ended in w with q, or a page's, run from there.
@@ -80,7 +80,7 @@ fn print_one(
     let used = q.used;
     let b = places[2 * page];
     let f = places[2 * page + 1];
-    let r = crate::walks::page_of(w, s, places[0], places[1], b, f, used, allowance);
+    let r = prints::walks::page_of(w, s, places[0], places[1], b, f, used, allowance);
     show(w, r, used, page, rows, sections);
 }
 
@@ -97,8 +97,8 @@ pub fn reprint_one(
     requires { ⌜ Holds (now s) (now places) page × (length (now s) ≤ 16777215) × (allowance ≤ 1000000) × (length (now w) ≡ 48000) × (8208 ≤ length (now rows)) × (24052 ≤ length (now sections)) ⌝ }
     ensures { λ r. ⌜ ((bodies : List (List ℕ)) → Placed (now (s .entry)) (now (places .entry)) bodies → page < length bodies → Reprinted allowance page bodies (now (w .exit)) (now (rows .entry)) (now (rows .exit)) (now (sections .entry)) (now (sections .exit)) r) ⌝ }
 {
-    let q = crate::walks::preamble_of(w, s, places[0], places[1], allowance);
-    if crate::rows::outcome_of(q) == OUT_OF_STEPS {
+    let q = prints::walks::preamble_of(w, s, places[0], places[1], allowance);
+    if prints::rows::outcome_of(q) == OUT_OF_STEPS {
         wipe(w);
         return refused(tokens::Refusal::PreambleUnfinished, 0);
     }

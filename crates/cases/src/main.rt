@@ -187,7 +187,7 @@ fn answer_of(record: &[u8], first: &mut [u8], second: &mut [u8], third: &mut [u8
     let given = nth_text(record, 1);
     let allowance = signed_at(record, ALLOWANCE);
     if call == 1 {
-        return lists::back::read_back(given, first, second);
+        return back::reading::read_back(given, first, second);
     }
     if call == 2 {
         return lists::writing::write(given, nth_text(record, 2), first);

@@ -68,7 +68,7 @@ use Rattle.state.specs.Layout.{valueIn, stackOf, contextsOf, contextAt, context
 use Rattle.state.proofs.Parts.{wide, contexts-top}
 use Rattle.state.proofs.Cutting.{over-above}
 use Rattle.state.proofs.Trying.{trying, failed, tried-as}
-use Rattle.state.proofs.Entering.{goes-home, goes-nowhere}
+use Rattle.contexts.proofs.Entering.{goes-home, goes-nowhere}
 use Rattle.state.proofs.Ending.{not-on}
 use Rattle.engine.specs.Bodies.{Short, Stepped}
 use Rattle.engine.specs.Swift.{marked, raised, Flat, stepped, Executes, Ready, Stays, Strode, Attempted, Sprinted, Led, Onward}

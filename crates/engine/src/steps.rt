@@ -103,7 +103,7 @@ fn mark(w: &mut [u8], r: Registers) -> Registers
         Card::Is(n) => {
             let mut q = r;
             q.height = r.height - 1;
-            state::marks::place(w, q, table::words::size(n))
+            recovery::marks::place(w, q, table::words::size(n))
         }
     }
 }
@@ -138,7 +138,7 @@ fn operator<'a>(w: &mut [u8], r: Registers, pre: &'a [u8], body: &'a [u8], n: u1
 {
     match n {
         186 => afresh(mark(w, afresh(r))),
-        192 => state::marks::remove(w, r, 0),
+        192 => recovery::marks::remove(w, r, 0),
         231 => afresh(run_operator(w, afresh(r), pre, body)),
         _ => afresh(plain(w, afresh(r), pre, body, n)),
     }
@@ -160,11 +160,11 @@ fn literal<'a>(
 {
     let o = literals::reading::bare_operator(b, at);
     if o.number != 0 {
-        let q = state::bodies::begin(w, r, table::words::word(o.next));
+        let q = contexts::bodies::begin(w, r, table::words::word(o.next));
         return operator(w, q, pre, body, o.number);
     }
     let d = literals::reading::due(b, at);
-    let q = state::bodies::begin(w, r, table::words::word(d.next));
+    let q = contexts::bodies::begin(w, r, table::words::word(d.next));
     let x = d.literal;
     afresh(execute(w, afresh(q), pre, body, x))
 }
@@ -174,15 +174,15 @@ fn pace<'a>(w: &mut [u8], r: Registers, pre: &'a [u8], body: &'a [u8]) -> Regist
     requires { ⌜ Good (now w) r × (0 < r .depth) × Executes (both (now pre) (now body)) (abs (now w) r) × (r .steps < 4294967295) × Short (now pre) (now body) ⌝ }
     ensures { λ q. ⌜ Stepped (now (pre .entry)) (now (body .entry)) (now (w .entry)) r (now (w .exit)) q ⌝ }
 {
-    let c = state::bodies::running(w, r.depth);
+    let c = contexts::bodies::running(w, r.depth);
     let b = crate::origins::bytes_of(pre, body, c.origin);
     let p = literal(w, r, pre, body, b, table::words::size(c.start));
     if p.ok {
-        return afresh(state::recovery::settle(w, p));
+        return afresh(recovery::ends::settle(w, p));
     }
     let mut q = r;
     q.steps = r.steps + 1;
-    afresh(state::recovery::fault(w, q))
+    afresh(recovery::ends::fault(w, q))
 }
 
 // ---- several steps
@@ -192,7 +192,7 @@ fn stretch<'a>(w: &mut [u8], r: Registers, pre: &'a [u8], body: &'a [u8], most: 
     requires { ⌜ Good (now w) r × (0 < r .depth) × (r .skipping ≡ false) × (r .steps + most ≤ 1000000) × Short (now pre) (now body) ⌝ }
     ensures { λ q. ⌜ Sprinted (both (now (pre .entry)) (now (body .entry))) most (now (w .entry)) r (now (w .exit)) q ⌝ }
 {
-    let c = state::bodies::running(w, r.depth);
+    let c = contexts::bodies::running(w, r.depth);
     let b = crate::origins::bytes_of(pre, body, c.origin);
     crate::swift::sprint(w, r, b, c.origin, most)
 }
@@ -207,15 +207,15 @@ fn pass<'a>(w: &mut [u8], start: Registers, pre: &'a [u8], body: &'a [u8], most:
     r.ok = false;
     let mut left = most;
     while left > 0 {
-        let c = state::bodies::running(w, depth);
+        let c = contexts::bodies::running(w, depth);
         let b = crate::origins::bytes_of(pre, body, c.origin);
         let d = literals::reading::ahead(b, table::words::size(c.start));
         if d.unmarks {
             r.ok = true;
             return r;
         }
-        let q = state::bodies::begin(w, r, table::words::word(d.next));
-        r = afresh(state::recovery::skipped(w, q));
+        let q = contexts::bodies::begin(w, r, table::words::word(d.next));
+        r = afresh(recovery::ends::skipped(w, q));
         r.ok = false;
         left -= 1;
         if r.depth == depth {
@@ -236,7 +236,7 @@ fn lead<'a>(w: &mut [u8], r: Registers, pre: &'a [u8], body: &'a [u8], most: usi
     }
     let p = stretch(w, r, pre, body, most);
     if p.ok {
-        let mut q = afresh(state::recovery::settle(w, p));
+        let mut q = afresh(recovery::ends::settle(w, p));
         q.ok = false;
         return q;
     }

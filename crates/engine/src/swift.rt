@@ -56,10 +56,14 @@ fn framed(w: &mut [u8], r: Registers, o: FrameOp) -> usize
     match e {
         Effect::Acts(next) => match next {
             Next::Works(k) => match k {
-                Work::Fetch { j } => height_of(state::frames::fetch(w, q, table::words::size(j))),
+                Work::Fetch { j } => height_of(contexts::frames::fetch(
+                    w,
+                    q,
+                    table::words::size(j),
+                )),
                 _ => UNDONE,
             },
-            Next::Store { j } => height_of(state::frames::store(w, q, table::words::size(j))),
+            Next::Store { j } => height_of(contexts::frames::store(w, q, table::words::size(j))),
             _ => UNDONE,
         },
         _ => UNDONE,
@@ -121,7 +125,7 @@ fn operate(w: &mut [u8], r: Registers, n: u16, clear: usize) -> usize
         180 => pop(w, r),
         181 => height_of(state::stack::repeat(w, r, 1)),
         185 => height_of(state::stack::exchange(w, r)),
-        188 => height_of(state::marks::tally(w, r, clear)),
+        188 => height_of(recovery::marks::tally(w, r, clear)),
         201 | 204 | 210 | 214 => reckon(w, r, two_numbers(n)),
         _ => UNDONE,
     }
@@ -138,11 +142,11 @@ fn sequence(w: &mut [u8], r: Registers, b: &[u8], at: usize) -> usize
     let x = d.literal;
     match x {
         Literal::Figure(a) => {
-            let q = state::bodies::begin(w, r, table::words::word(d.next));
+            let q = contexts::bodies::begin(w, r, table::words::word(d.next));
             height_of(state::stack::push_number(w, q, a))
         }
         Literal::Name { start, len } => {
-            let q = state::bodies::begin(w, r, table::words::word(d.next));
+            let q = contexts::bodies::begin(w, r, table::words::word(d.next));
             height_of(state::stack::push_name(w, q, start, len))
         }
         _ => UNDONE,
@@ -157,15 +161,15 @@ fn literal(w: &mut [u8], r: Registers, b: &[u8], at: usize, clear: usize) -> usi
     match tokens::forms::form_at(b, at) {
         Form::Number { raw, next } => {
             if skeleton::bodies::is_solid(b, next) {
-                let q = state::bodies::begin(w, r, table::words::word(next));
-                let a = tokens::reading::short_value(raw);
+                let q = contexts::bodies::begin(w, r, table::words::word(next));
+                let a = reader::reading::short_value(raw);
                 return height_of(state::stack::push_number(w, q, a));
             }
             UNDONE
         }
         Form::Operator { number, next } => {
             if skeleton::bodies::is_solid(b, next) {
-                let q = state::bodies::begin(w, r, table::words::word(next));
+                let q = contexts::bodies::begin(w, r, table::words::word(next));
                 return operate(w, q, number, clear);
             }
             UNDONE
@@ -187,19 +191,19 @@ pub fn sprint(w: &mut [u8], start: Registers, b: &[u8], origin: u32, most: usize
     r.ok = false;
     let mut left = most;
     while left > 0 {
-        let c = state::bodies::running(w, depth);
+        let c = contexts::bodies::running(w, depth);
         if c.origin != origin {
             return r;
         }
         let h = literal(w, r, b, table::words::size(c.start), clear);
         if h > 128 {
-            state::bodies::go_to(w, depth, c.start);
+            contexts::bodies::go_to(w, depth, c.start);
             return r;
         }
         r.height = h;
         r.steps += 1;
         left -= 1;
-        if state::recovery::goes_on(w, r, depth) {
+        if recovery::ends::goes_on(w, r, depth) {
             continue;
         }
         r.ok = true;

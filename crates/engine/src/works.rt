@@ -30,9 +30,9 @@ pub fn spell<'a>(
     requires { ⌜ Busy (now w) r ⌝ }
     ensures { λ q. ⌜ Tried (spell (both (now (pre .entry)) (now (body .entry))) start) (now (w .entry)) r (now (w .exit)) q ⌝ }
 {
-    let c = state::bodies::running(w, r.depth);
+    let c = contexts::bodies::running(w, r.depth);
     let b = crate::origins::bytes_of(pre, body, c.origin);
-    state::letters::spell(w, r, b, start)
+    store::letters::spell(w, r, b, start)
 }
 
 // A body of the running one entered with a copy of its frame.
@@ -48,10 +48,10 @@ fn inline<'a>(
     requires { ⌜ Busy (now w) r × Short (now pre) (now body) × (start + len < 4294967296) ⌝ }
     ensures { λ q. ⌜ Tried (inline (both (now (pre .entry)) (now (body .entry))) start len owes) (now (w .entry)) r (now (w .exit)) q ⌝ }
 {
-    let c = state::bodies::running(w, r.depth);
+    let c = contexts::bodies::running(w, r.depth);
     let b = crate::origins::bytes_of(pre, body, c.origin);
     let at = skeleton::bodies::past_comments(b, table::words::size(start));
-    state::bodies::inline(w, r, table::words::word(at), start + len, owes)
+    contexts::bodies::inline(w, r, table::words::word(at), start + len, owes)
 }
 
 // The body of an operator entered with the frame that it keeps.
@@ -78,7 +78,7 @@ pub fn call<'a>(
         return state::stack::failed(r);
     }
     let at = skeleton::bodies::past_comments(b, table::words::size(start));
-    state::bodies::call(
+    contexts::bodies::call(
         w,
         r,
         origin,
@@ -169,7 +169,7 @@ fn report(w: &[u8], r: Registers, v: machine::Value) -> Registers
             lower: _,
             count,
         } => {
-            let all = state::cells::all_cardinals(
+            let all = store::cells::all_cardinals(
                 w,
                 r.used,
                 table::words::size(first),
@@ -202,12 +202,12 @@ fn work<'a>(w: &mut [u8], r: Registers, pre: &'a [u8], body: &'a [u8], x: Work) 
 {
     match x {
         Work::Nothing => done(r),
-        Work::Fetch { j } => state::frames::fetch(w, r, table::words::size(j)),
-        Work::Element { cell } => state::cells::element(w, r, table::words::size(cell)),
-        Work::Build { lower, count } => state::cells::build(w, r, lower, table::words::size(count)),
+        Work::Fetch { j } => contexts::frames::fetch(w, r, table::words::size(j)),
+        Work::Element { cell } => store::cells::element(w, r, table::words::size(cell)),
+        Work::Build { lower, count } => store::cells::build(w, r, lower, table::words::size(count)),
         Work::Spell { start } => spell(w, r, pre, body, table::words::size(start)),
         Work::Utter { start, len } => state::stack::push_name(w, r, start, len),
-        Work::Compose { start, len } => state::cells::compose(w, r, start, len),
+        Work::Compose { start, len } => store::cells::compose(w, r, start, len),
         Work::Repeat { count } => state::stack::repeat(w, r, table::words::size(count)),
         Work::Turn { depth, first } => state::stack::turn(
             w,
@@ -234,10 +234,10 @@ fn act<'a>(w: &mut [u8], r: Registers, pre: &'a [u8], body: &'a [u8], x: Next) -
             len,
             first,
         } => call(w, r, pre, body, origin, start, len, first),
-        Next::Store { j } => state::frames::store(w, r, table::words::size(j)),
-        Next::Place { count } => state::marks::place(w, r, table::words::size(count)),
-        Next::Remove { count } => state::marks::remove(w, r, table::words::size(count)),
-        Next::Tally => state::marks::tally(w, r, r.height),
+        Next::Store { j } => contexts::frames::store(w, r, table::words::size(j)),
+        Next::Place { count } => recovery::marks::place(w, r, table::words::size(count)),
+        Next::Remove { count } => recovery::marks::remove(w, r, table::words::size(count)),
+        Next::Tally => recovery::marks::tally(w, r, r.height),
     }
 }
 

@@ -73,5 +73,5 @@ pub extern "C" fn pz_write(list: &[u8], text: &[u8], out: &mut [u8]) -> Answer
 pub extern "C" fn pz_read_back(bytes: &[u8], list: &mut [u8], text: &mut [u8]) -> Answer
     ensures { λ r. ⌜ Told (ReadsBack (now (bytes .entry)) (now (list .entry)) (now (list .exit)) (now (text .entry)) (now (text .exit))) r ⌝ }
 {
-    told(lists::back::read_back(bytes, list, text))
+    told(back::reading::read_back(bytes, list, text))
 }

@@ -12,11 +12,6 @@ pub mod SameTables
 pub mod WritePromise
 pub mod ReadPromise
 pub mod RoundTrip
-pub mod Copying
-pub mod Surveying
-pub mod Placing
-pub mod Filled
-pub mod Answering
 pub mod Storing
 pub mod Sizes
 pub mod Judging

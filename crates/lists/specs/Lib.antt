@@ -4,5 +4,4 @@ pub mod Listing
 pub mod Reading
 pub mod Promise
 pub mod Inner
-pub mod Filling
 pub mod Cases

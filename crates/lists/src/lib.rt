@@ -1,8 +1,7 @@
-// Token lists: a token table and its text table, written as one run of bytes and read back (document 01, Tokens and What the
+// Token lists: a token table and its text table, written as one run of bytes; `back` reads it back (document 01, Tokens and What the
 // controller takes). Both calls keep their promise in specs/Promise.antt.
 mod items; // four words, judged
 pub mod writing; // the list as bytes
-pub mod back; // reading back into lent tables
 
 // A token of a table, judged: one that can be written, with its words as they stand there (a numerator in two's complement) and a
 // place in the text table; or none.

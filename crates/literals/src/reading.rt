@@ -73,7 +73,7 @@ pub fn due(b: &[u8], at: usize) -> Due
     requires { ⌜ length (now b) ≤ 16777215 ⌝ }
     ensures { λ r. ⌜ Is (foundAt (now (b .entry)) at) r ⌝ }
 {
-    match tokens::reading::read_token(b, at) {
+    match reader::reading::read_token(b, at) {
         tokens::Read::Number { value, next } => found(b, Literal::Figure(value), next),
         tokens::Read::Identifier { len, next } => {
             let name = Literal::Name {
@@ -149,7 +149,7 @@ fn past_sequence(b: &[u8], at: usize) -> Ahead
     requires { ⌜ (length (now b) ≤ 16777215) × NoComment (tokenAt (now b) at) × ((at < length (now b)) × (192 ≤ getD (now b) at 0)) ⌝ }
     ensures { λ r. ⌜ Passes (foundAt (now (b .entry)) at) r ⌝ }
 {
-    match tokens::passing::pass_sequence(b, at) {
+    match reader::passing::pass_sequence(b, at) {
         tokens::Pass::Over { next } => Ahead {
             next: skeleton::bodies::past_comments(b, next),
             unmarks: false,

@@ -30,7 +30,7 @@ fn pass_comments(s: &[u8], at: usize) -> usize
 {
     let mut p = at;
     loop {
-        let taken = tokens::point::take(s, p);
+        let taken = reader::point::take(s, p);
         let token = taken.token;
         match token {
             Read::Comment { next: _ } => {
@@ -99,7 +99,7 @@ fn due_here(n: u16, s: &[u8], at: usize) -> Went
             }
         }
         Form::Number { raw: _, next: _ } => not_allowed(at),
-        Form::Sequence => match tokens::passing::pass_sequence(s, at) {
+        Form::Sequence => match reader::passing::pass_sequence(s, at) {
             Pass::Over { next: _ } => not_allowed(at),
             Pass::Unread { refusal, place } => Went::Stop { refusal, place },
         },
@@ -150,7 +150,7 @@ fn literals(s: &[u8], at: usize, left: usize) -> Went
                 },
                 Role::Barred => return not_allowed(p),
             },
-            Form::Sequence => match tokens::passing::pass_sequence(s, p) {
+            Form::Sequence => match reader::passing::pass_sequence(s, p) {
                 Pass::Over { next } => next,
                 Pass::Unread { refusal, place } => return Went::Stop { refusal, place },
             },

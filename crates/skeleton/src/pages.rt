@@ -65,7 +65,7 @@ fn barred_turn(place: usize) -> Turn
 fn turn(s: &[u8], had: usize, at: usize) -> Turn
     ensures { λ r. ⌜ r ≡ turnAt (now (s .entry)) had at ⌝ }
 {
-    match tokens::reading::read_token(s, at) {
+    match reader::reading::read_token(s, at) {
         Read::Operator { number, next } => {
             if number == roles::OPEN {
                 return page_turn(s, had, at);

@@ -1,12 +1,6 @@
-// The state of the machine in the lent table, and the operations that the engine is made of. Above this crate nothing knows where in
-// the table a thing stands. How a value lies in a slot is said by `Layout`; slots are made by the operations that push them.
-pub mod bodies; // a step begun, bodies entered, a body of the engine's opened
-pub mod cells; // vectors made and read, the frame that an operator keeps
-pub mod frames; // the running frame
-pub mod letters; // a string becomes a vector
-pub mod marks; // MARK, UNMARK, COUNT
-pub mod recovery; // mark recovery, the end of bodies
-pub mod sections; // a result's sections
+// The state of the machine in the lent table, and the operations on values and the stack; `contexts`, `recovery` and `store` have the
+// others that the engine is made of. Above these crates nothing knows where in the table a thing stands. How a value lies in a slot is
+// said by `Layout`; slots are made by the operations that push them.
 pub mod stack; // the values above the topmost mark
 pub mod values; // a value read from a slot, a number put into one
 

@@ -13,5 +13,4 @@ pub mod OnePiece
 pub mod Ends
 pub mod Told
 pub mod Numbers
-pub mod Pointed
 pub mod Theorems

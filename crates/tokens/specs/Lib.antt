@@ -4,7 +4,6 @@ pub mod Bytes
 pub mod Text
 pub mod Joined
 pub mod Token
-pub mod Point
 pub mod Inner
 pub mod Passing
 pub mod Cases

@@ -1,15 +1,12 @@
-// One token of the Xerox encoding, read from bytes (document 000, 2.5; document 01, Tokens). The machine above relies on the
+// Tokens of the Xerox encoding in bytes, which `reader` reads (document 000, 2.5; document 01, Tokens). The machine above relies on the
 // definitions of specs/ and the laws of proofs/Theorems.antt alone.
 pub mod refusals; // every refusal of the product by number
 pub mod header; // the header of a master
 pub mod bits; // fields of a token's first bytes
-mod values; // sizes of data, bytes high byte first, two's complement
+pub mod values; // sizes of data, bytes high byte first, two's complement
 pub mod text; // strings and identifiers
 pub mod sequences; // a sequence with its continuations
 pub mod forms; // the form of the token at a place
-pub mod reading; // the token at a place
-pub mod passing; // a sequence passed over, judged but not kept
-pub mod point; // the reading point, handed from token to token
 
 // Why an input is refused. specs/Refusal.antt has the numbers.
 pub enum Refusal {

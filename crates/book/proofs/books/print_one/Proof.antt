@@ -1,7 +1,7 @@
 -- `books::print_one` meets its contract. Assumes nothing.
 use native.Mathlib.Omega.{arith}
 use native.Mathlib.Nat.{le-refl}
-use Rattle.book.proofs.Walking.{page-asks}
+use Rattle.prints.proofs.Walking.{page-asks}
 use Rattle.book.proofs.Booking.{ready-of}
 use Rattle.book.proofs.Reprinting.{shown-first, shown-page}
 use borrow.Author.Needs.{needs}

@@ -1,7 +1,7 @@
 -- `books::reprint_one` meets its contract. Assumes nothing.
 use native.Mathlib.Omega.{arith}
 use native.Mathlib.Nat.{le-refl}
-use Rattle.book.proofs.Walking.{page-asks}
+use Rattle.prints.proofs.Walking.{page-asks}
 use Rattle.book.proofs.Reprinting.{one-unfinished, one-ran}
 use borrow.Author.Needs.{needs}
 use Rattle.book.proofs.books.reprint_one.Statement.{statement}

@@ -4,7 +4,7 @@ use borrow.Author.Tests.{not-true, not-false}
 use lib.IntN.{pos}
 use mir.Facts.{toZ-ofZ}
 use Rattle.machine.specs.Promise.{allowed}
-use Rattle.book.proofs.Admitting.{asked, too-long, too-short, not-allowed, surveyed}
+use Rattle.prints.proofs.Admitting.{asked, too-long, too-short, not-allowed, surveyed}
 use borrow.Author.Needs.{needs}
 use Rattle.book.proofs.calls.admit.Statement.{statement}
 use Rattle.book.proofs.calls.admit.Tie as tie

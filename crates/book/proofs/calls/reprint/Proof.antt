@@ -5,7 +5,7 @@ use borrow.Author.Tests.{not-true, not-false}
 use lib.IntN.{pos, natAbs}
 use lib.Seq.{length-take-le}
 use mir.Facts.{toZ-ofZ}
-use Rattle.book.proofs.Admitting.{asked}
+use Rattle.prints.proofs.Admitting.{asked}
 use Rattle.book.proofs.Booking.{came, stays, few-steps, some-steps}
 use Rattle.book.proofs.Reprinting.{reprint-halts, no-page, reprint-done, page-held, page-counts, page-fits, reprint-room}
 use borrow.Author.Needs.{needs}

@@ -7,9 +7,9 @@ use lib.ListN.{length}
 use borrow.Author.Needs.{needs}
 use Rattle.tokens.specs.declared.Read.{Read}
 use Rattle.tokens.specs.declared.Read.the-variants.{Comment}
-use Rattle.tokens.specs.declared.point.Taken.{Taken}
+use Rattle.reader.specs.declared.point.Taken.{Taken}
 use Rattle.tokens.specs.Token.{tokenAt}
-use Rattle.tokens.specs.Point.{nextOf, takenAt}
+use Rattle.reader.specs.Point.{nextOf, takenAt}
 use Rattle.machine.proofs.Inside.{EndsIn, token-inside}
 use Rattle.machine.specs.Skeleton.{pastComment, solidFrom, solid}
 use Rattle.skeleton.proofs.BodyTurns.{past, stands}

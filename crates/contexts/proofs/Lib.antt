@@ -1,0 +1,2 @@
+-- The laws, lowest first. Assumes nothing.
+pub mod Entering

@@ -1,0 +1,8 @@
+-- The laws, lowest first. Assumes nothing.
+pub mod Growing
+pub mod SameBytes
+pub mod Ending
+pub mod Rowing
+pub mod Walking
+pub mod Paging
+pub mod Admitting

@@ -1,0 +1,4 @@
+// The token at a place of the bytes (document 000, 2.5; document 01, Tokens), read, passed over, or taken from the reading point.
+pub mod reading; // the token at a place
+pub mod passing; // a sequence passed over, judged but not kept
+pub mod point; // the reading point, handed from token to token

@@ -1,0 +1,134 @@
+// A sequence token passed over. One in a single piece that obeys its rule is judged where it lies, and nothing of it is kept; any other is
+// read. In order: each type's data; the token.
+ghost use mathlib.Core.Path.{_≡_};
+ghost use mathlib.Core.Bool.{true};
+ghost use Prim.Native.Nat.{ℕ, _+_, _/_, _<_, _≤_};
+ghost use lib.ListN.{length, getD};
+ghost use lib.Seq.{slice};
+ghost use lib.IntN.{pos};
+ghost use Rattle.numbers.specs.Fraction.{ratioOf};
+ghost use Rattle.tokens.specs.declared.Rule.the-variants.{Named};
+ghost use Rattle.tokens.specs.declared.Pass.the-variants.{Over};
+ghost use Rattle.tokens.specs.Text.{isName};
+ghost use Rattle.tokens.specs.Joined.{continued};
+ghost use Rattle.tokens.specs.Token.{integerSize, rationalSize, integerIn, rationalIn, judged, tokenAt};
+ghost use Rattle.tokens.specs.Passing.{passOf, Answered};
+use crate::reading::read_token;
+use tokens::Pass;
+use tokens::Piece;
+use tokens::Read;
+use tokens::Rule;
+use tokens::bits::low5;
+use tokens::sequences::is_continued;
+use tokens::sequences::piece_at;
+use tokens::text::all_obey;
+use tokens::text::is_letter;
+use tokens::values::integer_size;
+use tokens::values::name_size;
+use tokens::values::rational_size;
+use tokens::values::value_after;
+
+// An identifier: the first byte is a letter.
+fn is_name(s: &[u8], start: usize, len: usize) -> bool
+    requires { ⌜ start + len ≤ length (now s) ⌝ }
+    ensures { λ r. ⌜ r ≡ isName Named (slice start (start + len) (now (s .entry))) ⌝ }
+{
+    if !name_size(len) {
+        return false;
+    }
+    if !is_letter(s[start]) {
+        return false;
+    }
+    all_obey(Rule::Named, s, start, len)
+}
+
+// Of the integers of up to 4 bytes this value alone, -2147483648, is outside the limits of a number.
+const LEAST: u64 = 2147483648;
+
+fn is_integer(s: &[u8], start: usize, len: usize) -> bool
+    requires { ⌜ start + len ≤ length (now s) ⌝ }
+    ensures { λ r. ⌜ (r ≡ true → (integerSize len ≡ true) × Answered (ratioOf (integerIn len (slice start (start + len) (now (s .entry)))) (pos 1))) ⌝ }
+{
+    if !integer_size(len) {
+        return false;
+    }
+    value_after(0, 0, s, start, len) != LEAST
+}
+
+// A rational that is inside the limits before it is reduced.
+fn is_rational(s: &[u8], start: usize, len: usize) -> bool
+    requires { ⌜ start + len ≤ length (now s) ⌝ }
+    ensures { λ r. ⌜ (r ≡ true → (rationalSize len ≡ true) × Answered (rationalIn (len / 2) (slice start (start + len) (now (s .entry))))) ⌝ }
+{
+    if !rational_size(len) {
+        return false;
+    }
+    let h = len / 2;
+    if value_after(0, 0, s, start, h) == LEAST {
+        return false;
+    }
+    let d = value_after(0, 0, s, start + h, h);
+    if d == LEAST {
+        return false;
+    }
+    d != 0
+}
+
+// The data of a sequence of type `k` obey its rule: seen at once, so that `false` says nothing.
+fn is_sound(k: u8, s: &[u8], start: usize, len: usize) -> bool
+    requires { ⌜ start + len ≤ length (now s) ⌝ }
+    ensures { λ r. ⌜ (r ≡ true → (at next : ℕ) → passOf (judged k at (slice start (start + len) (now (s .entry))) next) ≡ Over next) ⌝ }
+{
+    if k == 1 {
+        return all_obey(Rule::Plain, s, start, len);
+    }
+    if k == 2 {
+        return is_integer(s, start, len);
+    }
+    if k == 4 {
+        return is_rational(s, start, len);
+    }
+    if k == 5 {
+        return is_name(s, start, len);
+    }
+    k == 6
+}
+
+// A continued token stands at `at`.
+fn is_continued_at(s: &[u8], at: usize) -> bool
+    ensures { λ r. ⌜ r ≡ continued (getD (now (s .entry)) at 0) ⌝ }
+{
+    if s.len() <= at {
+        return false;
+    }
+    is_continued(s[at])
+}
+
+fn pass_of(token: Read) -> Pass
+    ensures { λ r. ⌜ r ≡ passOf token ⌝ }
+{
+    match token {
+        Read::Number { value: _, next } => Pass::Over { next },
+        Read::Identifier { len: _, next } => Pass::Over { next },
+        Read::String { count: _, next } => Pass::Over { next },
+        Read::Operator { number: _, next } => Pass::Over { next },
+        Read::Comment { next } => Pass::Over { next },
+        Read::Unread { refusal, place } => Pass::Unread { refusal, place },
+    }
+}
+
+// Past the sequence token at `at`.
+pub fn pass_sequence(s: &[u8], at: usize) -> Pass
+    requires { ⌜ (at < length (now s)) × (192 ≤ getD (now s) at 0) ⌝ }
+    ensures { λ r. ⌜ r ≡ passOf (tokenAt (now (s .entry)) at) ⌝ }
+{
+    if let Piece::Data { start, len } = piece_at(s, at) {
+        let next = start + len;
+        if !is_continued_at(s, next) {
+            if is_sound(low5(s[at]), s, start, len) {
+                return Pass::Over { next };
+            }
+        }
+    }
+    pass_of(read_token(s, at))
+}

@@ -1,0 +1,4 @@
+-- The laws, lowest first. Assumes nothing.
+pub mod Charging
+pub mod Cardinals
+pub mod Showing

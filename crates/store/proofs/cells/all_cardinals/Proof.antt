@@ -1,0 +1,33 @@
+-- `cells::all_cardinals` meets its contract. Assumes nothing.
+use borrow.Author.Needs.{needs}
+use mathlib.Core.Path.{_≡_, refl, sym, _∙_}
+use Prim.Native.Nat.{_-_}
+use native.Mathlib.Numerals.{add-one}
+use Rattle.table.specs.Slots.{slots}
+use Rattle.store.proofs.Cardinals.{cardinals, cells-over, none-due, cardinal-on, cardinal-not}
+use Rattle.store.proofs.cells.all_cardinals.Statement.{statement}
+use Rattle.store.proofs.cells.all_cardinals.Tie as tie
+
+abbrev Inv-loop : tie.InvT-loop
+Inv-loop w used first count k₀ left₀ k left = cardinals (slots w) used k left ≡ cardinals (slots w) used first count
+
+abbrev μ-loop : tie.MeasureT-loop
+μ-loop w used first count k₀ left₀ k left = used - k
+
+pub all-cardinals-spec : {M : Type 1} → statement M
+all-cardinals-spec =
+    tie.close
+    (tie.spec
+    Inv-loop
+    μ-loop
+    (λ c. refl)
+    (λ c. let o = c .before .before .loop in sym (none-due (slots (c .before .before .before .before .args .w .now)) (c .before .before .before .before .args .used) (o .k) (o .left) (c .if1 .taken)) ∙ o .inv)
+    (λ c. search needs)
+    (λ c κs. search needs)
+    (λ c κs. search needs)
+    (λ c. search needs)
+    (λ c. search needs)
+    (λ c. search needs)
+    (λ c. rw (add-one (c .before .before .before .before .before .loop .k)) (sym (cardinal-on (slots (c .before .before .before .before .before .before .before .args .w .now)) (c .before .before .before .before .before .before .before .args .used) (c .before .before .before .before .before .loop .k) (c .before .before .before .before .before .loop .left) (c .before .before .before .before .loop-test .taken) (c .before .is-cardinal .result) (rw (c .before .before .get .ensures) at (c .before .is-cardinal .ensures)) (c .before .before .before .if1 .left) (c .if2 .taken)) ∙ c .before .before .before .before .before .loop .inv))
+    (λ c. sym (cardinal-not (slots (c .before .before .before .before .before .before .before .args .w .now)) (c .before .before .before .before .before .before .before .args .used) (c .before .before .before .before .before .loop .k) (c .before .before .before .before .before .loop .left) (c .before .before .before .before .loop-test .taken) (c .before .is-cardinal .result) (rw (c .before .before .get .ensures) at (c .before .is-cardinal .ensures)) (c .before .before .before .if1 .left) (c .if2 .left)) ∙ c .before .before .before .before .before .loop .inv)
+    (λ c. let o = c .before .loop in sym (cells-over (slots (c .before .before .before .args .w .now)) (c .before .before .before .args .used) (o .k) (o .left) (c .loop-test .left)) ∙ o .inv))
