@@ -6,7 +6,6 @@ use mathlib.Core.Bool.{Bool, true, false}
 use mathlib.Core.List.{List, [], _∷_, _++_}
 use mathlib.Core.Option.{Option, none, some}
 use lib.ListN.{length, take, drop}
-use Rattle.table.specs.declared.Slot.{Slot}
 use Rattle.table.specs.Slots.{slots}
 use Rattle.machine.specs.declared.Value.{Value}
 use Rattle.machine.specs.declared.Work.{Work}
@@ -24,9 +23,10 @@ use Rattle.machine.specs.Engine.{limited, withContexts, values, withValues, pop
 use Rattle.machine.specs.Step.{effectAt, execute}
 use Rattle.machine.proofs.Changes.{OnSome, limited-on, provided-on}
 use Rattle.state.specs.declared.Registers.{Registers}
-use Rattle.state.specs.Layout.{stackOf, abs, answer, Tried}
-use Rattle.state.proofs.Parts.{length-stack, length-contexts, length-values}
+use Rattle.state.specs.Layout.{abs, answer, Tried}
+use Rattle.state.proofs.Parts.{length-contexts, length-values}
 use Rattle.state.proofs.Ending.{not-on}
+use Rattle.effects.proofs.Acting.{beneath-few}
 use Rattle.engine.specs.Swift.{raised, Flat}
 
 -- ---- effects that make no cells, enter no body and place no mark
@@ -71,16 +71,6 @@ unfolding beneath
 beneath-again [] = refl
 beneath-again (val v ∷ s) = beneath-again s
 beneath-again (mark k ∷ s) = refl
-
-pub beneath-few : (s : List Entry) → length (beneath s) ≤ length s
-unfolding beneath
-beneath-few [] = omega arith
-beneath-few (val v ∷ s) = omega (arith, beneath-few s)
-beneath-few (mark k ∷ s) = omega arith
-
--- marks stand within the stack
-pub marks-low : (m : List Slot) (height : ℕ) → length (beneath (stackOf m height)) ≤ height
-marks-low m height = omega (arith, beneath-few (stackOf m height), length-stack m height)
 
 -- ---- states
 

@@ -1,7 +1,4 @@
 -- The laws, lowest first. Assumes nothing.
-pub mod ByOrigin
-pub mod Working
-pub mod Acting
 pub mod Level
 pub mod Stepping
 pub mod Swiftly

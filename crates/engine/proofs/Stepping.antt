@@ -46,8 +46,8 @@ use Rattle.state.proofs.Trying.{trying, failed, tried-no, tried-as, tried-from,
 use Rattle.state.proofs.Stacking.{above-few}
 use Rattle.state.proofs.Ending.{not-on}
 use Rattle.engine.specs.Swift.{Flat, Executes}
-use Rattle.engine.specs.Bodies.{SizedLiteral, Stepped}
-use Rattle.engine.proofs.Acting.{is-fail}
+use Rattle.engine.specs.Steps.{SizedLiteral, Stepped}
+use Rattle.effects.proofs.Acting.{is-fail}
 use Rattle.engine.proofs.Level.{flat, flat-of}
 
 -- ---- the values that an operator reads

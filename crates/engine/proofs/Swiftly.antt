@@ -70,10 +70,11 @@ use Rattle.state.proofs.Cutting.{over-above}
 use Rattle.state.proofs.Trying.{trying, failed, tried-as}
 use Rattle.contexts.proofs.Entering.{goes-home, goes-nowhere}
 use Rattle.state.proofs.Ending.{not-on}
-use Rattle.engine.specs.Bodies.{Short, Stepped}
+use Rattle.effects.specs.Bodies.{Short}
+use Rattle.engine.specs.Steps.{Stepped}
 use Rattle.engine.specs.Swift.{marked, raised, Flat, stepped, Executes, Ready, Stays, Strode, Attempted, Sprinted, Led, Onward}
-use Rattle.engine.proofs.ByOrigin.{bytes-short}
-use Rattle.engine.proofs.Acting.{nothing-done, is-acts, by-call, by-place}
+use Rattle.effects.proofs.ByOrigin.{bytes-short}
+use Rattle.effects.proofs.Acting.{nothing-done, is-acts, by-call, by-place}
 use Rattle.engine.proofs.Level.{flat, flat-made, flat-of}
 use Rattle.engine.proofs.Stepping.{busy-lower, plain-few, plain-done, plain-fails, run-next, run-both}
 

@@ -1,2 +1,2 @@
-pub mod Bodies
+pub mod Steps
 pub mod Swift

@@ -7,7 +7,8 @@ ghost use Rattle.machine.specs.Literal.{Code};
 ghost use Rattle.machine.specs.Step.{execute, run};
 ghost use Rattle.literals.specs.Names.{both};
 ghost use Rattle.state.specs.Layout.{abs, Good, Busy, Tried};
-ghost use Rattle.engine.specs.Bodies.{Short, SizedLiteral, Stepped, Ran};
+ghost use Rattle.effects.specs.Bodies.{Short};
+ghost use Rattle.engine.specs.Steps.{SizedLiteral, Stepped, Ran};
 ghost use Rattle.engine.specs.Swift.{Executes, Ready, Attempted, Sprinted, Led, Onward};
 use machine::Literal;
 use machine::Value;
@@ -30,7 +31,7 @@ fn plain<'a>(w: &mut [u8], r: Registers, pre: &'a [u8], body: &'a [u8], n: u16) 
     let e = operators::effect_of(o, x, y);
     let mut q = r;
     q.height = r.height - a;
-    crate::works::affect(w, q, pre, body, e)
+    effects::works::affect(w, q, pre, body, e)
 }
 
 // An operator with its body.
@@ -56,7 +57,7 @@ fn holder<'a>(
     let e = operators::control::effect(o, start, len, x);
     let mut q = r;
     q.height = r.height - a;
-    crate::works::affect(w, q, pre, body, e)
+    effects::works::affect(w, q, pre, body, e)
 }
 
 fn execute<'a>(w: &mut [u8], r: Registers, pre: &'a [u8], body: &'a [u8], x: Literal) -> Registers
@@ -66,7 +67,13 @@ fn execute<'a>(w: &mut [u8], r: Registers, pre: &'a [u8], body: &'a [u8], x: Lit
     match x {
         Literal::Figure(a) => state::stack::push_number(w, r, a),
         Literal::Name { start, len } => state::stack::push_name(w, r, start, len),
-        Literal::Text { start } => crate::works::spell(w, r, pre, body, table::words::size(start)),
+        Literal::Text { start } => effects::works::spell(
+            w,
+            r,
+            pre,
+            body,
+            table::words::size(start),
+        ),
         Literal::Plain { number } => plain(w, r, pre, body, number),
         Literal::WithBody { number, start, len } => holder(w, r, pre, body, number, start, len),
     }
@@ -126,7 +133,7 @@ fn run_operator<'a>(w: &mut [u8], r: Registers, pre: &'a [u8], body: &'a [u8]) -
         } => {
             let mut q = r;
             q.height = r.height - 1;
-            crate::works::call(w, q, pre, body, origin, start, len, first)
+            effects::works::call(w, q, pre, body, origin, start, len, first)
         }
         _ => state::stack::failed(r),
     }
@@ -175,7 +182,7 @@ fn pace<'a>(w: &mut [u8], r: Registers, pre: &'a [u8], body: &'a [u8]) -> Regist
     ensures { λ q. ⌜ Stepped (now (pre .entry)) (now (body .entry)) (now (w .entry)) r (now (w .exit)) q ⌝ }
 {
     let c = contexts::bodies::running(w, r.depth);
-    let b = crate::origins::bytes_of(pre, body, c.origin);
+    let b = effects::origins::bytes_of(pre, body, c.origin);
     let p = literal(w, r, pre, body, b, table::words::size(c.start));
     if p.ok {
         return afresh(recovery::ends::settle(w, p));
@@ -193,7 +200,7 @@ fn stretch<'a>(w: &mut [u8], r: Registers, pre: &'a [u8], body: &'a [u8], most: 
     ensures { λ q. ⌜ Sprinted (both (now (pre .entry)) (now (body .entry))) most (now (w .entry)) r (now (w .exit)) q ⌝ }
 {
     let c = contexts::bodies::running(w, r.depth);
-    let b = crate::origins::bytes_of(pre, body, c.origin);
+    let b = effects::origins::bytes_of(pre, body, c.origin);
     crate::swift::sprint(w, r, b, c.origin, most)
 }
 
@@ -208,7 +215,7 @@ fn pass<'a>(w: &mut [u8], start: Registers, pre: &'a [u8], body: &'a [u8], most:
     let mut left = most;
     while left > 0 {
         let c = contexts::bodies::running(w, depth);
-        let b = crate::origins::bytes_of(pre, body, c.origin);
+        let b = effects::origins::bytes_of(pre, body, c.origin);
         let d = literals::reading::ahead(b, table::words::size(c.start));
         if d.unmarks {
             r.ok = true;

@@ -1,7 +1,7 @@
 -- `steps::literal` meets its contract. Assumes nothing.
 use mathlib.Core.Path.{refl}
 use native.Mathlib.Omega.{arith}
-use Rattle.engine.proofs.ByOrigin.{due-fits}
+use Rattle.effects.proofs.ByOrigin.{due-fits}
 use Rattle.engine.proofs.Stepping.{sized-due, tried-same, busy-same}
 use Rattle.engine.proofs.Swiftly.{attempted, bytes-fit, found-due}
 use borrow.Author.Needs.{needs}

@@ -1,7 +1,7 @@
 -- `swift::framed` meets its contract. Assumes nothing.
 use Rattle.engine.proofs.Level.{flat-undone}
 use Rattle.engine.proofs.Swiftly.{frame-one, by-frame}
-use Rattle.engine.proofs.Acting.{is-acts, by-works, by-store, at-fetch}
+use Rattle.effects.proofs.Acting.{is-acts, by-works, by-store, at-fetch}
 use Rattle.engine.proofs.Stepping.{tops-fit, plain-flat}
 use Rattle.machine.specs.declared.Op.the-variants.{OnFrame}
 use Rattle.state.specs.Layout.{valueIn}

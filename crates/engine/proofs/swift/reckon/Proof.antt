@@ -1,7 +1,7 @@
 -- `swift::reckon` meets its contract. Assumes nothing.
 use Rattle.engine.proofs.Level.{flat-undone}
 use Rattle.engine.proofs.Swiftly.{by-arith}
-use Rattle.engine.proofs.Acting.{is-gives}
+use Rattle.effects.proofs.Acting.{is-gives}
 use Rattle.engine.proofs.Stepping.{tops-fit, plain-flat}
 use Rattle.machine.specs.declared.Op.the-variants.{Reckons}
 use mathlib.Core.Path.{refl}

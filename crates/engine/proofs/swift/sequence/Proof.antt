@@ -1,7 +1,7 @@
 -- `swift::sequence` meets its contract. Assumes nothing.
 use Rattle.engine.proofs.Swiftly.{figure-flat, name-flat, found-due, strode, strode-none, stays, stays-none}
 use Rattle.engine.proofs.Level.{flat-of}
-use Rattle.engine.proofs.ByOrigin.{due-fits}
+use Rattle.effects.proofs.ByOrigin.{due-fits}
 use Rattle.engine.proofs.Stepping.{by-figure, by-name}
 use mathlib.Core.Path.{refl}
 use mathlib.Core.List.{[]}

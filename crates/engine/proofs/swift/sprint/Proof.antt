@@ -9,7 +9,7 @@ use Rattle.machine.specs.Step.{run}
 use Rattle.machine.specs.Literal.{Code, bytesOf}
 use Rattle.state.specs.Layout.{aside, abs, Good}
 use Rattle.engine.specs.Swift.{marked}
-use Rattle.engine.proofs.Level.{marks-low}
+use Rattle.effects.proofs.Acting.{marks-low}
 use Rattle.engine.proofs.Swiftly.{none-run, ready-here, undone, good-stepped, sprint-stop, sprint-on, sprint-ends}
 use Rattle.engine.proofs.swift.sprint.Statement.{statement}
 use Rattle.engine.proofs.swift.sprint.Tie as tie

@@ -1,0 +1,12 @@
+-- `works::figure` meets its contract. Assumes nothing.
+use borrow.Author.Needs.{needs}
+use Rattle.effects.proofs.Acting.{one-is, zero-is}
+use Rattle.effects.proofs.works.figure.Statement.{statement}
+use Rattle.effects.proofs.works.figure.Tie as tie
+
+pub figure-spec : {M : Type 1} → statement M
+figure-spec =
+    tie.close
+    (tie.spec
+    (λ c. search (needs, one-is))
+    (λ c. search (needs, zero-is)))
