@@ -211,28 +211,30 @@ module _ {w : List ℕ} {r : Registers} (n : ℕ) (g : Busy w r) where
 
 -- ---- COUNT
 
-module _ {w : List ℕ} {r : Registers} (k : ℕ) (g : Busy w r) (kl : k ≤ r .height) (ek : k ≡ length (above (stackOf (slots w) (r .height)))) where
-  beneath-is : beneath (stackOf (slots w) (r .height)) ≡ stackOf (slots w) (r .height - k)
-  beneath-is = beneath-drop (stackOf (slots w) (r .height)) ∙ (rw (← ek) (stack-dropped (slots w) k (r .height) kl))
+module _ {w : List ℕ} {r : Registers} (i : ℕ) (g : Busy w r) (il : i ≤ r .height) (ei : r .height - i ≡ length (above (stackOf (slots w) (r .height)))) where
+  beneath-is : beneath (stackOf (slots w) (r .height)) ≡ stackOf (slots w) i
+  beneath-is =
+      let e : r .height - (r .height - i) ≡ i = omega arith in
+      beneath-drop (stackOf (slots w) (r .height)) ∙ (rw (← ei, stack-dropped (slots w) (r .height - i) (r .height) (omega arith), e))
 
-  bare : k ≡ r .height → beneath (stackOf (slots w) (r .height)) ≡ []
+  bare : i ≡ 0 → beneath (stackOf (slots w) (r .height)) ≡ []
   unfolding stackOf desc
-  bare e = let z : r .height - k ≡ 0 = omega arith in beneath-is ∙ (rw z)
+  bare e = beneath-is ∙ (rw e)
 
-  pub tally-bare : {r′ : Registers} → k ≡ r .height → r′ ≡ failed r → Tried tally w r w r′
+  pub tally-bare : {r′ : Registers} → i ≡ 0 → r′ ≡ failed r → Tried tally w r w r′
   unfolding tally tallyAt
   tally-bare {r′} e q = tried-no g (rw (bare e)) q
 
-  module _ (v : Slot) (got : v ≡ getD (slots w) (r .height - k - 1) nil) (ne : k ≡ r .height → ⊥) where
-    top-is : beneath (stackOf (slots w) (r .height)) ≡ entryIn v ∷ stackOf (slots w) (r .height - k - 1)
-    top-is = beneath-is ∙ stack-at (slots w) (r .height - k) v (omega arith) got
+  module _ (v : Slot) (got : v ≡ getD (slots w) (i - 1) nil) (ne : i ≡ 0 → ⊥) where
+    top-is : beneath (stackOf (slots w) (r .height)) ≡ entryIn v ∷ stackOf (slots w) (i - 1)
+    top-is = beneath-is ∙ stack-at (slots w) i v (omega arith) got
 
     pub tally-value : {r′ : Registers} → (v .kind ≡ 5 → ⊥) → r′ ≡ failed r → Tried tally w r w r′
     unfolding tally tallyAt entryIn
     tally-value {r′} h q = tried-no g (rw (top-is, ne-eqb (v .kind) 5 h)) q
 
     module _ (is : v .kind ≡ 5) (c : Slot) (has : c ≡ getD (slots w) (1752 + (r .depth - 1)) nil) where
-      mark-is : beneath (stackOf (slots w) (r .height)) ≡ mark (v .a) ∷ stackOf (slots w) (r .height - k - 1)
+      mark-is : beneath (stackOf (slots w) (r .height)) ≡ mark (v .a) ∷ stackOf (slots w) (i - 1)
       unfolding entryIn
       mark-is = rw (eq-eqb (v .kind) 5 is) at top-is
 
@@ -240,8 +242,8 @@ module _ {w : List ℕ} {r : Registers} (k : ℕ) (g : Busy w r) (kl : k ≤ r .
       unfolding tally tallyAt provided
       tally-other {r′} h q = tried-no g (rw (mark-is, running-id w r c g has, ne-eqb (v .a) (c .kind) h)) q
 
-      pub tally-push : {w′ : List ℕ} {r′ : Registers} (n : ℕ) → v .a ≡ c .kind → n ≡ k → Tried (push (valueIn (mk 1 n 1 0 0))) w r w′ r′ → Tried tally w r w′ r′
+      pub tally-push : {w′ : List ℕ} {r′ : Registers} (n : ℕ) → v .a ≡ c .kind → n ≡ r .height - i → Tried (push (valueIn (mk 1 n 1 0 0))) w r w′ r′ → Tried tally w r w′ r′
       unfolding tally tallyAt provided valueIn natural
       tally-push {w′} {r′} n h e t =
-          let l : k ≤ 128 = omega arith in
-          tried-as (rw (mark-is, running-id w r c g has, eq-eqb (v .a) (c .kind) h, ← ek, e, toZ-pos w32 {n = k} (omega arith))) t
+          let l : r .height - i ≤ 128 = omega arith in
+          tried-as (rw (mark-is, running-id w r c g has, eq-eqb (v .a) (c .kind) h, ← ei, e, toZ-pos w32 {n = r .height - i} (omega arith))) t

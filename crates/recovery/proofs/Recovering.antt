@@ -103,8 +103,14 @@ module _ {R : ℕ} (m : List Slot) (i n : ℕ) (inv : n + length (above (stackOf
         let k = rw (stack-at m i v h got, eq-eqb (v .kind) 5 e) at inv in
         omega arith
 
-    pub count-more : (v .kind ≡ 5 → ⊥) → n + 1 + length (above (stackOf m (i - 1))) ≡ R
+    count-more : (v .kind ≡ 5 → ⊥) → n + 1 + length (above (stackOf m (i - 1))) ≡ R
     unfolding above entryIn
     count-more e =
         let k = rw (stack-at m i v h got, ne-eqb (v .kind) 5 e) at inv in
         omega arith
+
+-- one value more
+pub count-next : {R : ℕ} (m : List Slot) (height i : ℕ) → i ≤ height → height - i + length (above (stackOf m i)) ≡ R → (v : Slot) → v ≡ getD m (i - 1) nil → 0 < i → (v .kind ≡ 5 → ⊥) → height - (i - 1) + length (above (stackOf m (i - 1))) ≡ R
+count-next m height i l inv v got h e =
+    let z : height - (i - 1) ≡ height - i + 1 = omega arith in
+    rw z (count-more m i (height - i) inv v got h e)

@@ -10,26 +10,23 @@ ghost use Rattle.state.specs.Operations.{markPut};
 use state::Registers;
 use table::Slot;
 
-// How many values stand above the topmost mark. No mark stands at the height `clear` or above.
-fn count(w: &[u8], height: usize, clear: usize) -> usize
+// Where the values above the topmost mark begin. No mark stands at the height `clear` or above.
+fn base(w: &[u8], height: usize, clear: usize) -> usize
     requires { ⌜ (height ≤ 128) × (48000 ≤ length (now w)) × (length (beneath (stackOf (slots (now w)) height)) ≤ clear) ⌝ }
-    ensures { λ r. ⌜ (r ≤ height) × (r ≡ length (above (stackOf (slots (now (w .entry))) height))) ⌝ }
+    ensures { λ r. ⌜ (r ≤ height) × (height - r ≡ length (above (stackOf (slots (now (w .entry))) height))) ⌝ }
 {
     let mut i = height;
-    let mut n: usize = 0;
     if clear < height {
         i = clear;
-        n = height - clear;
     }
     while i > 0 {
         let v = table::slots::get(w, i - 1);
         if v.kind == 5 {
-            return n;
+            return i;
         }
-        n += 1;
         i -= 1;
     }
-    n
+    i
 }
 
 // A mark of the context with the identity `id` under the n slots from a on, by way of the room for entries.
@@ -109,11 +106,11 @@ pub fn tally(w: &mut [u8], r: Registers, clear: usize) -> Registers
     ensures { λ q. ⌜ Tried tally (now (w .entry)) r (now (w .exit)) q ⌝ }
 {
     let height = r.height;
-    let k = count(w, height, clear);
-    if k == height {
+    let i = base(w, height, clear);
+    if i == 0 {
         return state::stack::failed(r);
     }
-    let v = table::slots::get(w, height - k - 1);
+    let v = table::slots::get(w, i - 1);
     if v.kind != 5 {
         return state::stack::failed(r);
     }
@@ -122,7 +119,7 @@ pub fn tally(w: &mut [u8], r: Registers, clear: usize) -> Registers
     if v.a != c.kind {
         return state::stack::failed(r);
     }
-    let n = table::words::word(k);
+    let n = table::words::word(height - i);
     state::stack::push_slot(
         w,
         r,
