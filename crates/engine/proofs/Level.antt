@@ -15,7 +15,7 @@ use Rattle.machine.specs.declared.Next.the-variants.{Works, Inline, Call, Store
 use Rattle.machine.specs.declared.Effect.{Effect}
 use Rattle.machine.specs.declared.Effect.the-variants.{Fail, Gives, Gives2, Acts}
 use Rattle.machine.specs.declared.Literal.{Literal}
-use Rattle.machine.specs.State.{Entry, val, mark, Context, State}
+use Rattle.machine.specs.State.{Entry, val, mark, Context, State, running}
 use Rattle.machine.specs.Literal.{Code}
 use Rattle.machine.specs.Operators.{popped}
 use Rattle.machine.specs.Contexts.{beneath, over}
@@ -81,6 +81,12 @@ record Level (s t : State) : Type 0 where
   steps : t .steps ≡ s .steps
   errors : t .errors ≡ s .errors
   low : length (beneath (t .stack)) ≤ length (beneath (s .stack))
+  here : running (t .contexts) .origin ≡ running (s .contexts) .origin
+
+stored-here : (j : ℕ) (v : Value) (cs : List Context) → running (storeIn j v cs) .origin ≡ running cs .origin
+unfolding storeIn running
+stored-here j v [] = refl
+stored-here j v (c ∷ cs) = refl
 
 stored-length : (j : ℕ) (v : Value) (cs : List Context) → length (storeIn j v cs) ≡ length cs
 unfolding storeIn
@@ -89,16 +95,16 @@ stored-length j v (c ∷ cs) = refl
 
 module _ (code : Code) (s : State) where
   level-same : OnSome (Level s) (limited s)
-  level-same = limited-on (Level s) s (λ h. record { contexts = refl; cells = refl; skipping = refl; steps = refl; errors = refl; low = omega arith })
+  level-same = limited-on (Level s) s (λ h. record { contexts = refl; cells = refl; skipping = refl; steps = refl; errors = refl; low = omega arith; here = refl })
 
   level-push : (v : Value) → OnSome (Level s) (push v s)
   unfolding push beneath
-  level-push v = limited-on (Level s) _ (λ h. record { contexts = refl; cells = refl; skipping = refl; steps = refl; errors = refl; low = omega arith })
+  level-push v = limited-on (Level s) _ (λ h. record { contexts = refl; cells = refl; skipping = refl; steps = refl; errors = refl; low = omega arith; here = refl })
 
   level-values : (vs : List Value) → OnSome (Level s) (limited (withValues vs (s .cells) s))
   level-values vs =
       let e : length (beneath (over vs (beneath (s .stack)))) ≡ length (beneath (s .stack)) = ap length (beneath-over vs (beneath (s .stack)) ∙ beneath-again (s .stack)) in
-      limited-on (Level s) _ (λ h. record { contexts = refl; cells = refl; skipping = refl; steps = refl; errors = refl; low = omega (arith, e) })
+      limited-on (Level s) _ (λ h. record { contexts = refl; cells = refl; skipping = refl; steps = refl; errors = refl; low = omega (arith, e); here = refl })
 
   level-worked : (x : Work) → flatWork x ≡ true → OnSome (Level s) (worked code x s)
   unfolding worked repeat turn
@@ -119,7 +125,7 @@ module _ (code : Code) (s : State) where
   level-stored j v =
       let vs = drop 1 (values s) in
       let e : length (beneath (over vs (beneath (s .stack)))) ≡ length (beneath (s .stack)) = ap length (beneath-over vs (beneath (s .stack)) ∙ beneath-again (s .stack)) in
-      limited-on (Level s) _ (λ h. record { contexts = stored-length j v (s .contexts); cells = refl; skipping = refl; steps = refl; errors = refl; low = omega (arith, e) })
+      limited-on (Level s) _ (λ h. record { contexts = stored-length j v (s .contexts); cells = refl; skipping = refl; steps = refl; errors = refl; low = omega (arith, e); here = stored-here j v (s .contexts) })
 
   level-removed : (id n : ℕ) (vs : List Value) (t : List Entry) → beneath (s .stack) ≡ t → OnSome (Level s) (removeAt id n vs t s)
   unfolding removeAt
@@ -128,7 +134,7 @@ module _ (code : Code) (s : State) where
   level-removed id n vs (mark k ∷ t) e =
       let a : length (beneath (s .stack)) ≡ suc (length t) = ap length e in
       let b : length (beneath (over vs t)) ≡ length (beneath t) = ap length (beneath-over vs t) in
-      provided-on _ _ _ (λ _. limited-on (Level s) _ (λ h. record { contexts = refl; cells = refl; skipping = refl; steps = refl; errors = refl; low = omega (arith, a, b, beneath-few t) }))
+      provided-on _ _ _ (λ _. limited-on (Level s) _ (λ h. record { contexts = refl; cells = refl; skipping = refl; steps = refl; errors = refl; low = omega (arith, a, b, beneath-few t); here = refl }))
 
   level-tallied : (id n : ℕ) (t : List Entry) → OnSome (Level s) (tallyAt id n t s)
   unfolding tallyAt
@@ -150,7 +156,7 @@ module _ (code : Code) (s : State) where
   unfolding affected push beneath
   level-affected Fail f = not-on f
   level-affected (Gives a) f = level-push _
-  level-affected (Gives2 a b) f = limited-on (Level s) _ (λ h. record { contexts = refl; cells = refl; skipping = refl; steps = refl; errors = refl; low = omega arith })
+  level-affected (Gives2 a b) f = limited-on (Level s) _ (λ h. record { contexts = refl; cells = refl; skipping = refl; steps = refl; errors = refl; low = omega arith; here = refl })
   level-affected (Acts x) f = level-does x f
 
 -- values popped before
@@ -159,7 +165,7 @@ unfolding pops
 level-popped n s none h = tt
 level-popped n s (some t) h =
     let e : length (beneath (over (drop n (values s)) (beneath (s .stack)))) ≡ length (beneath (s .stack)) = ap length (beneath-over (drop n (values s)) (beneath (s .stack)) ∙ beneath-again (s .stack)) in
-    record { contexts = h .contexts; cells = h .cells; skipping = h .skipping; steps = h .steps; errors = h .errors; low = omega (arith, e, h .low) }
+    record { contexts = h .contexts; cells = h .cells; skipping = h .skipping; steps = h .steps; errors = h .errors; low = omega (arith, e, h .low); here = h .here }
 
 level-execute : (code : Code) (x : Literal) (s : State) → flat (effectAt x s) ≡ true → OnSome (Level s) (execute code x s)
 unfolding execute
@@ -179,7 +185,7 @@ module _ {w w′ : List ℕ} {r : Registers} (code : Code) (x : Literal) (f : fl
   unfolding answer
   flat-made h few t =
       let l = level-of (execute code x (abs w r)) (level-execute code x (abs w r) f) (sym (t .does)) in
-      record { made = λ _. t; low = λ _. l .low; back = λ b. absurd (omega arith) }
+      record { made = λ _. t; low = λ _. l .low; here = λ _. l .here; back = λ b. absurd (omega arith) }
 
   by-ok : (h : ℕ) (p : Registers) (b : Bool) → p .ok ≡ b → (p .ok ≡ true → h ≡ p .height) × (p .ok ≡ false → h ≡ 129) → Tried (execute code x) w r w′ p → Flat (execute code x) w r w′ h
   unfolding answer
@@ -190,7 +196,7 @@ module _ {w w′ : List ℕ} {r : Registers} (code : Code) (x : Literal) (f : fl
       let used : p .used ≡ r .used = sym (length-values (slots w′) 728 (p .used)) ∙ l .cells ∙ length-values (slots w) 728 (r .used) in
       let e : p ≡ raised r h = registers-path r h (sym (a .0 o)) deep used (l .steps) (l .errors) (l .skipping) o in
       flat-made h (omega (arith, a .0 o, t .busy .stack-fits)) (rw e at t)
-  by-ok h p false o a t = record { made = λ b. absurd (omega (arith, a .1 o)); low = λ b. absurd (omega (arith, a .1 o)); back = λ b. t .back o }
+  by-ok h p false o a t = record { made = λ b. absurd (omega (arith, a .1 o)); low = λ b. absurd (omega (arith, a .1 o)); here = λ b. absurd (omega (arith, a .1 o)); back = λ b. t .back o }
 
   -- the height that an operation answers
   pub flat-of : (h : ℕ) (p : Registers) → (p .ok ≡ true → h ≡ p .height) × (p .ok ≡ false → h ≡ 129) → Tried (execute code x) w r w′ p → Flat (execute code x) w r w′ h
@@ -198,7 +204,7 @@ module _ {w w′ : List ℕ} {r : Registers} (code : Code) (x : Literal) (f : fl
 
 -- nothing done
 pub flat-undone : {f : State → Option State} {w : List ℕ} {r : Registers} (h : ℕ) → 128 < h → Flat f w r w h
-flat-undone h more = record { made = λ b. absurd (omega arith); low = λ b. absurd (omega arith); back = λ b. refl }
+flat-undone h more = record { made = λ b. absurd (omega arith); low = λ b. absurd (omega arith); here = λ b. absurd (omega arith); back = λ b. refl }
 
 -- what the height tells of an operation
 pub tells-on : (b : Bool) (h : ℕ) → b ≡ true → (b ≡ true → h ≡ h) × (b ≡ false → h ≡ 129)

@@ -72,7 +72,7 @@ use Rattle.contexts.proofs.Entering.{goes-home, goes-nowhere}
 use Rattle.state.proofs.Ending.{not-on}
 use Rattle.effects.specs.Bodies.{Short}
 use Rattle.engine.specs.Steps.{Stepped}
-use Rattle.engine.specs.Swift.{marked, raised, Flat, stepped, Executes, Ready, Stays, Strode, Attempted, Sprinted, Led, Onward}
+use Rattle.engine.specs.Swift.{marked, raised, origin, Flat, stepped, Executes, Ready, Stays, Strode, Attempted, Sprinted, Led, Onward}
 use Rattle.effects.proofs.ByOrigin.{bytes-short}
 use Rattle.effects.proofs.Acting.{nothing-done, is-acts, by-call, by-place}
 use Rattle.engine.proofs.Level.{flat, flat-made, flat-of}
@@ -315,6 +315,11 @@ unfolding begunIn
 begun-stack next [] s = refl
 begun-stack next (c ∷ cs) s = refl
 
+begun-here : (next : ℕ) (cs : List Context) (s : State) → s .contexts ≡ cs → running (begunIn next cs s .contexts) .origin ≡ running cs .origin
+unfolding begunIn running
+begun-here next [] s e = rw e
+begun-here next (c ∷ cs) s e = refl
+
 pub place-is : (m : List Slot) (d at : ℕ) → 0 < d → at ≡ running (contextsOf m d) .at → at ≡ getD m (1752 + (d - 1)) nil .b
 unfolding running contextAt contextIn
 place-is m d at h e = rw (contexts-top m d h) at e
@@ -325,11 +330,22 @@ module _ {w w₁ : List ℕ} {r q : Registers} {n : ℕ} (be : Begun n w r w₁ 
   unfolding begun
   marked-begun = ap (λ (s : State). length (beneath (s .stack))) (be .does) ∙ ap (λ (l : List Entry). length (beneath l)) (begun-stack n (contextsOf (slots w) (r .depth)) (abs w r))
 
+  -- the same body runs
+  origin-begun : origin w₁ (q .depth) ≡ origin w (r .depth)
+  unfolding begun
+  origin-begun = ap (λ (s : State). running (s .contexts) .origin) (be .does) ∙ begun-here n (contextsOf (slots w) (r .depth)) (abs w r) refl
+
   pub stays : {f : State → Option State} {w′ : List ℕ} (h : ℕ) → Flat f w₁ q w′ h → Stays w r w′ h
-  stays h t = record { low = λ few. omega (arith, t .low few, marked-begun); keeps = λ few. t .made few .keeps ∙ be .keeps }
+  stays {f} {w′} h t =
+      let d : q .depth ≡ r .depth = ap (λ (x : Registers). x .depth) (be .registers) in
+      record {
+        low = λ few. omega (arith, t .low few, marked-begun);
+        here = λ few. (rw d at (t .here few)) ∙ (rw d at origin-begun);
+        keeps = λ few. t .made few .keeps ∙ be .keeps;
+      }
 
 pub stays-none : {w w′ : List ℕ} {r : Registers} (h : ℕ) → 128 < h → Stays w r w′ h
-stays-none h more = record { low = λ k. absurd (omega arith); keeps = λ k. absurd (omega arith) }
+stays-none h more = record { low = λ k. absurd (omega arith); here = λ k. absurd (omega arith); keeps = λ k. absurd (omega arith) }
 
 module _ {code : Code} {b w : List ℕ} {at : ℕ} {r : Registers} (ready : Ready code b at w r) where
   pub strode-none : (h : ℕ) → 128 < h → Strode code at w r w h
@@ -468,10 +484,9 @@ unfolding run
 none-run code n s = let z : n - n ≡ 0 = omega arith in rw z
 
 -- so it is with the bytes of the running body
-pub ready-here : {code : Code} {b w : List ℕ} {r : Registers} (origin at place depth : ℕ) → Good w r → r .depth ≡ depth → 0 < depth → r .skipping ≡ false → r .steps < 4294967295 → b ≡ bytesOf code origin
-    → place ≡ running (contextsOf (slots w) depth) .origin → place ≡ origin → at ≡ running (contextsOf (slots w) depth) .at → Ready code b at w r
-ready-here origin at place depth g d h on few eb ep eo ea =
-    record { good = g; runs = rw d h; executes = rw on; few = few; bytes = rw (d, ← ep, eo) eb; place = rw d ea }
+pub ready-here : {code : Code} {b w : List ℕ} {r : Registers} (o at depth : ℕ) → Good w r → r .depth ≡ depth → 0 < depth → r .skipping ≡ false → r .steps < 4294967295 → b ≡ bytesOf code o → origin w depth ≡ o
+    → at ≡ running (contextsOf (slots w) depth) .at → Ready code b at w r
+ready-here o at depth g d h on few eb eo ea = record { good = g; runs = rw d h; executes = rw on; few = few; bytes = rw (d, eo) eb; place = rw d ea }
 
 -- gone back
 pub undone : (m m′ m″ : List Slot) (depth d at start : ℕ) → m″ ≡ goesTo m′ depth start → d ≡ depth → at ≡ start → goesTo m′ d at ≡ m → m″ ≡ m

@@ -201,7 +201,7 @@ fn stretch<'a>(w: &mut [u8], r: Registers, pre: &'a [u8], body: &'a [u8], most: 
 {
     let c = contexts::bodies::running(w, r.depth);
     let b = effects::origins::bytes_of(pre, body, c.origin);
-    crate::swift::sprint(w, r, b, c.origin, most)
+    crate::swift::sprint(w, r, b, most)
 }
 
 // Literals of the running body passed over, up to UNMARK0.

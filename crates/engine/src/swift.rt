@@ -15,7 +15,7 @@ ghost use Rattle.machine.specs.Operators.{opOf, arityOf};
 ghost use Rattle.machine.specs.Literal.{Code, bytesOf};
 ghost use Rattle.machine.specs.Step.{execute};
 ghost use Rattle.state.specs.Layout.{Good, Busy};
-ghost use Rattle.engine.specs.Swift.{marked, Flat, Ready, Stays, Strode, Sprinted};
+ghost use Rattle.engine.specs.Swift.{marked, origin, Flat, Ready, Stays, Strode, Sprinted};
 use machine::ArithOp;
 use machine::Effect;
 use machine::FrameOp;
@@ -181,9 +181,9 @@ fn literal(w: &mut [u8], r: Registers, b: &[u8], at: usize, clear: usize) -> usi
 
 // Literals of the running body, whose bytes are b, as long as they can be executed here and the body goes on. `ok` says that the last one
 // has ended its body, which is still to be left.
-pub fn sprint(w: &mut [u8], start: Registers, b: &[u8], origin: u32, most: usize) -> Registers
+pub fn sprint(w: &mut [u8], start: Registers, b: &[u8], most: usize) -> Registers
     requires { ⌜ Good (now w) start × (0 < start .depth) × (start .skipping ≡ false) × (start .steps + most ≤ 1000000) × (length (now b) ≤ 16777215) ⌝ }
-    ensures { λ q. ⌜ ((code : Code) → now (b .entry) ≡ bytesOf code origin → Sprinted code most (now (w .entry)) start (now (w .exit)) q) ⌝ }
+    ensures { λ q. ⌜ ((code : Code) → now (b .entry) ≡ bytesOf code (origin (now (w .entry)) (start .depth)) → Sprinted code most (now (w .entry)) start (now (w .exit)) q) ⌝ }
 {
     let depth = start.depth;
     let clear = start.height;
@@ -192,9 +192,6 @@ pub fn sprint(w: &mut [u8], start: Registers, b: &[u8], origin: u32, most: usize
     let mut left = most;
     while left > 0 {
         let c = contexts::bodies::running(w, depth);
-        if c.origin != origin {
-            return r;
-        }
         let h = literal(w, r, b, table::words::size(c.start), clear);
         if h > 128 {
             contexts::bodies::go_to(w, depth, c.start);

@@ -12,4 +12,4 @@ stretch-spec =
     (λ c κs. search needs)
     (λ c κs. (c .before .before .before .before .before .before .before .pre .0, c .before .before .before .before .before .before .before .pre .1, c .before .before .before .before .before .before .before .pre .2, c .before .before .before .before .before .before .before .pre .3, rw (c .before .bytes-of .ensures) (bytes-short _ _ (c .before .before .running .result .origin) (c .before .before .before .before .before .before .before .pre .4))))
     (λ c. search needs)
-    (λ c. c .before .before .sprint .ensures _ (c .before .before .before .before .bytes-of .ensures)))
+    (λ c. c .before .before .sprint .ensures _ (rw (← (c .before .before .before .before .before .running .ensures .0)) (c .before .before .before .before .bytes-of .ensures))))
