@@ -96,6 +96,7 @@ fn afresh(r: Registers) -> Registers
     }
 }
 
+// MARK: a mark of the running context under as many values as the topmost one says.
 fn mark(w: &mut [u8], r: Registers) -> Registers
     requires { ⌜ Busy (now w) r ⌝ }
     ensures { λ q. ⌜ ((code : Code) → Tried (execute code (Plain 186)) (now (w .entry)) r (now (w .exit)) q) ⌝ }
@@ -139,6 +140,7 @@ fn run_operator<'a>(w: &mut [u8], r: Registers, pre: &'a [u8], body: &'a [u8]) -
     }
 }
 
+// An operator without a body.
 fn operator<'a>(w: &mut [u8], r: Registers, pre: &'a [u8], body: &'a [u8], n: u16) -> Registers
     requires { ⌜ Busy (now w) r × Short (now pre) (now body) ⌝ }
     ensures { λ q. ⌜ Tried (execute (both (now (pre .entry)) (now (body .entry))) (Plain n)) (now (w .entry)) r (now (w .exit)) q ⌝ }
