@@ -27,7 +27,7 @@ use Rattle.state.specs.Layout.{abs, answer, Tried}
 use Rattle.state.proofs.Parts.{length-contexts, length-values}
 use Rattle.state.proofs.Ending.{not-on}
 use Rattle.effects.proofs.Acting.{beneath-few}
-use Rattle.engine.specs.Swift.{raised, Flat}
+use Rattle.engine.specs.Swift.{raised, Stays, Flat}
 
 -- ---- effects that make no cells, enter no body and place no mark
 
@@ -179,13 +179,16 @@ registers-path r h a b c d e f g = λ i. record { height = a i; depth = b i; use
 level-of : {s t : State} (o : Option State) → OnSome (Level s) o → o ≡ some t → Level s t
 level-of {s} o h e = rw e at h
 
+pub stays-none : {w w′ : List ℕ} {r : Registers} (h : ℕ) → 128 < h → Stays w r w′ h
+stays-none h more = record { low = λ k. absurd (omega arith); here = λ k. absurd (omega arith); keeps = λ k. absurd (omega arith) }
+
 module _ {w w′ : List ℕ} {r : Registers} (code : Code) (x : Literal) (f : flat (effectAt x (abs w r)) ≡ true) where
   -- a height that is one
   pub flat-made : (h : ℕ) → h ≤ 128 → Tried (execute code x) w r w′ (raised r h) → Flat (execute code x) w r w′ h
   unfolding answer
   flat-made h few t =
       let l = level-of (execute code x (abs w r)) (level-execute code x (abs w r) f) (sym (t .does)) in
-      record { made = λ _. t; low = λ _. l .low; here = λ _. l .here; back = λ b. absurd (omega arith) }
+      record { made = λ _. t; stays = record { low = λ _. l .low; here = λ _. l .here; keeps = λ _. t .keeps }; back = λ b. absurd (omega arith) }
 
   by-ok : (h : ℕ) (p : Registers) (b : Bool) → p .ok ≡ b → (p .ok ≡ true → h ≡ p .height) × (p .ok ≡ false → h ≡ 129) → Tried (execute code x) w r w′ p → Flat (execute code x) w r w′ h
   unfolding answer
@@ -196,7 +199,7 @@ module _ {w w′ : List ℕ} {r : Registers} (code : Code) (x : Literal) (f : fl
       let used : p .used ≡ r .used = sym (length-values (slots w′) 728 (p .used)) ∙ l .cells ∙ length-values (slots w) 728 (r .used) in
       let e : p ≡ raised r h = registers-path r h (sym (a .0 o)) deep used (l .steps) (l .errors) (l .skipping) o in
       flat-made h (omega (arith, a .0 o, t .busy .stack-fits)) (rw e at t)
-  by-ok h p false o a t = record { made = λ b. absurd (omega (arith, a .1 o)); low = λ b. absurd (omega (arith, a .1 o)); here = λ b. absurd (omega (arith, a .1 o)); back = λ b. t .back o }
+  by-ok h p false o a t = record { made = λ b. absurd (omega (arith, a .1 o)); stays = stays-none h (omega (arith, a .1 o)); back = λ b. t .back o }
 
   -- the height that an operation answers
   pub flat-of : (h : ℕ) (p : Registers) → (p .ok ≡ true → h ≡ p .height) × (p .ok ≡ false → h ≡ 129) → Tried (execute code x) w r w′ p → Flat (execute code x) w r w′ h
@@ -204,7 +207,7 @@ module _ {w w′ : List ℕ} {r : Registers} (code : Code) (x : Literal) (f : fl
 
 -- nothing done
 pub flat-undone : {f : State → Option State} {w : List ℕ} {r : Registers} (h : ℕ) → 128 < h → Flat f w r w h
-flat-undone h more = record { made = λ b. absurd (omega arith); low = λ b. absurd (omega arith); here = λ b. absurd (omega arith); back = λ b. refl }
+flat-undone h more = record { made = λ b. absurd (omega arith); stays = stays-none h more; back = λ b. refl }
 
 -- what the height tells of an operation
 pub tells-on : (b : Bool) (h : ℕ) → b ≡ true → (b ≡ true → h ≡ h) × (b ≡ false → h ≡ 129)

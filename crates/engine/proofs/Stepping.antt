@@ -10,7 +10,7 @@ use borrow.Author.Tests.{le-leb, lt-leb}
 use mir.Syntax.{w32}
 use mir.Val.{toZ}
 use lib.Dec.{eqb}
-use lib.ListN.{length, take}
+use lib.ListN.{length}
 use Rattle.numbers.specs.declared.Number as num
 use Rattle.table.specs.declared.Slot.{Slot}
 use Rattle.table.specs.Slots.{slots}
@@ -43,7 +43,7 @@ use Rattle.state.specs.Operations as table
 use Rattle.state.proofs.Parts.{contexts-top, length-stack}
 use Rattle.state.proofs.Cutting.{over-above}
 use Rattle.state.proofs.Trying.{trying, failed, tried-no, tried-as, tried-from, pops-is}
-use Rattle.state.proofs.Stacking.{above-few}
+use Rattle.state.proofs.Stacking.{above-few, fewer, enough-there}
 use Rattle.state.proofs.Ending.{not-on}
 use Rattle.engine.specs.Swift.{Flat, Executes}
 use Rattle.engine.specs.Steps.{SizedLiteral, Stepped}
@@ -62,17 +62,6 @@ pub small-value : (x : Value) (v : Slot) → x ≡ valueIn v → Small x
 unfolding valueIn
 small-value x v e = rw e (small v (eqb (v .kind) 2) (eqb (v .kind) 3) (eqb (v .kind) 4))
 
--- two are enough to know whether there are a, of at most two
-fewer : (vs : List Value) (a : ℕ) → a ≤ 2 → length (take 2 vs) < a → length vs < a
-fewer [] a h l = l
-fewer (x ∷ []) a h l = l
-fewer (x ∷ y ∷ vs) a h l = absurd (omega arith)
-
-enough : (vs : List Value) (a : ℕ) → a ≤ length (take 2 vs) → a ≤ length vs
-enough [] a l = l
-enough (x ∷ []) a l = l
-enough (x ∷ y ∷ vs) a l = omega arith
-
 module _ {w : List ℕ} {r : Registers} (code : Code) (x : Literal) (a : ℕ) (t : Tops) (g : Busy w r) (two : a ≤ 2) (ea : a ≡ popped x) (et : Topmost (above (stackOf (slots w) (r .height))) t) where
   exec-few : {r′ : Registers} → t .count < a → r′ ≡ failed r → Tried (execute code x) w r w r′
   unfolding execute provided
@@ -85,17 +74,13 @@ module _ {w : List ℕ} {r : Registers} (code : Code) (x : Literal) (a : ℕ) (t
   exec-done {w′} {q} {r′} e h i eq d =
       let c = et .count in
       let k = length (above (stackOf (slots w) (r .height))) in
-      let l : a ≤ k = enough (above (stackOf (slots w) (r .height))) a (omega arith) in
+      let l : a ≤ k = enough-there (above (stackOf (slots w) (r .height))) a (omega arith) in
       let z : k ≤ r .height = omega (arith, above-few (stackOf (slots w) (r .height)), length-stack (slots w) (r .height)) in
       tried-from (rw (← ea, le-leb a k l, ← i, eq, pops-is w r a k (r .ok) l z refl)) (rw eq) d
 
 -- values popped
 pub busy-lower : {w : List ℕ} {r q : Registers} (a : ℕ) → Busy w r → q ≡ trying r (r .height - a) (r .depth) (r .used) (r .ok) → Busy w q
 busy-lower a g e = rw e (omega arith)
-
--- the height does not fall below the bottom
-pub tops-fit : (m : List Slot) (height a : ℕ) (t : Tops) → Topmost (above (stackOf m height)) t → a ≤ t .count → a ≤ height
-tops-fit m height a t et h = let c = et .count in omega (arith, enough (above (stackOf m height)) a (omega arith), above-few (stackOf m height), length-stack m height)
 
 -- ---- an operator without a body
 

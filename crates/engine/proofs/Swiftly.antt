@@ -22,7 +22,7 @@ use Rattle.tokens.specs.declared.Form.the-variants as form
 use Rattle.tokens.specs.Token.{tokenAt}
 use Rattle.tokens.specs.Passing.{Shows}
 use Rattle.machine.specs.declared.Value.{Value}
-use Rattle.machine.specs.declared.Value.the-variants.{Number, Identifier, Vector, Operator}
+use Rattle.machine.specs.declared.Value.the-variants.{Number, Operator}
 use Rattle.machine.specs.declared.Role.the-variants as role
 use Rattle.machine.specs.declared.Literal.{Literal}
 use Rattle.machine.specs.declared.Literal.the-variants.{Figure, Name, Plain}
@@ -42,7 +42,7 @@ use Rattle.machine.specs.declared.ArithOp.the-variants.{Add, Sub, Mul, Div}
 use Rattle.machine.specs.State.{Entry, Context, State, running}
 use Rattle.machine.specs.State as state
 use Rattle.machine.specs.Skeleton.{holders, barred, oneOf, roleOf, solid}
-use Rattle.machine.specs.Literal.{Code, bytesOf, Found, operatorBy, foundBy, foundAt}
+use Rattle.machine.specs.Literal.{Code, bytesOf, Found, foundBy, foundAt}
 use Rattle.machine.specs.Operators.{opOf, opIn, operators, arityOf, effectOf, popped, performed}
 use Rattle.machine.specs.Ops.Frame.{frameArity, frameEffect}
 use Rattle.machine.specs.Operand.{cardinal?, asOperator}
@@ -56,7 +56,7 @@ use Rattle.machine.proofs.Inside.{token-inside}
 use Rattle.operators.specs.declared.Card.{Card}
 use Rattle.operators.specs.declared.Card.the-variants.{No, Is}
 use Rattle.operators.specs.Operands.{cardOf}
-use Rattle.operators.proofs.Reading.{no-card, is-card}
+use Rattle.operators.proofs.Reading.{no-operator, no-card, is-card}
 use Rattle.machine.proofs.Value.{the-type}
 use Rattle.literals.specs.declared.Due.{Due}
 use Rattle.literals.specs.Dues as dues
@@ -280,22 +280,11 @@ module _ (b : List ℕ) (at : ℕ) (f : Form) (shows : Shows b at f) where
       let t : tokenAt b at ≡ read.Number (record { num = pos raw -ℤ pos bias; den = 1 }) next = rw e at shows in
       (rw t at (token-inside b at)) .1
 
-  pub operator-inside : (n next : ℕ) → f ≡ form.Operator n next → next ≤ length b
-  operator-inside n next e =
-      let t : tokenAt b at ≡ read.Operator n next = rw e at shows in
-      (rw t at (token-inside b at)) .1
-
   pub found-number : (raw next past : ℕ) (a : num.Number) → f ≡ form.Number raw next → a ≡ record { num = pos raw -ℤ pos bias; den = 1 } → past ≡ solid b next → foundAt b at ≡ record { literal = Figure a; next = past }
   unfolding foundAt foundBy
   found-number raw next past a e en ep =
       let t : tokenAt b at ≡ read.Number (record { num = pos raw -ℤ pos bias; den = 1 }) next = rw e at shows in
       rw (t, en, ep)
-
-  pub found-operator : (n next past : ℕ) → f ≡ form.Operator n next → past ≡ solid b next → roleOf n ≡ role.Plain → foundAt b at ≡ record { literal = Plain n; next = past }
-  unfolding foundAt foundBy operatorBy
-  found-operator n next past e ep er =
-      let t : tokenAt b at ≡ read.Operator n next = rw e at shows in
-      rw (t, er, ep)
 
 pub figure-flat : (a : num.Number) (s : State) → flat (effectAt (Figure a) s) ≡ true
 unfolding effectAt performed
@@ -339,13 +328,10 @@ module _ {w w₁ : List ℕ} {r q : Registers} {n : ℕ} (be : Begun n w r w₁ 
   stays {f} {w′} h t =
       let d : q .depth ≡ r .depth = ap (λ (x : Registers). x .depth) (be .registers) in
       record {
-        low = λ few. omega (arith, t .low few, marked-begun);
-        here = λ few. (rw d at (t .here few)) ∙ (rw d at origin-begun);
-        keeps = λ few. t .made few .keeps ∙ be .keeps;
+        low = λ few. omega (arith, t .stays .low few, marked-begun);
+        here = λ few. (rw d at (t .stays .here few)) ∙ (rw d at origin-begun);
+        keeps = λ few. t .stays .keeps few ∙ be .keeps;
       }
-
-pub stays-none : {w w′ : List ℕ} {r : Registers} (h : ℕ) → 128 < h → Stays w r w′ h
-stays-none h more = record { low = λ k. absurd (omega arith); here = λ k. absurd (omega arith); keeps = λ k. absurd (omega arith) }
 
 module _ {code : Code} {b w : List ℕ} {at : ℕ} {r : Registers} (ready : Ready code b at w r) where
   pub strode-none : (h : ℕ) → 128 < h → Strode code at w r w h
@@ -407,15 +393,9 @@ do-one : (1 ≡ arityOf (Calls Do)) × (1 ≤ 2)
 unfolding arityOf
 do-one = (refl, omega arith)
 
--- the tags of the other values
-no-operator : (x y : Value) → OneOf (0 ∷ 1 ∷ 2 ∷ []) (tagOf the-type x) → Fail ≡ effectOf (Calls Do) x y
-unfolding effectOf callEffect called asOperator
-no-operator (Number a) y h = refl
-no-operator (Identifier o s l) y h = refl
-no-operator (Vector f l c) y h = refl
-no-operator (Operator o s l f) y (inl e) = absurd (omega arith)
-no-operator (Operator o s l f) y (inr (inl e)) = absurd (omega arith)
-no-operator (Operator o s l f) y (inr (inr e)) = absurd (omega arith)
+calls-nothing : (x y : Value) → OneOf (0 ∷ 1 ∷ 2 ∷ []) (tagOf the-type x) → Fail ≡ effectOf (Calls Do) x y
+unfolding effectOf callEffect called
+calls-nothing x y h = no-operator x _ h
 
 do-call : (o s l f : ℕ) (x y : Value) → x ≡ Operator o s l f → Acts (Call o s l f) ≡ effectOf (Calls Do) x y
 unfolding effectOf callEffect called asOperator
@@ -432,7 +412,7 @@ module _ {w : List ℕ} {r : Registers} (code : Code) (t : Tops) (g : Busy w r) 
 
     pub do-fails : {r′ : Registers} → OneOf (0 ∷ 1 ∷ 2 ∷ []) (tagOf the-type x) → r′ ≡ failed r → Tried (execute code (Plain 231)) w r w r′
     do-fails {r′} bad q =
-        plain-fails code 231 1 (Calls Do) t g (by-number .6) do-one et x (valueIn (t .second)) h ex refl (no-operator x (valueIn (t .second)) bad) q
+        plain-fails code 231 1 (Calls Do) t g (by-number .6) do-one et x (valueIn (t .second)) h ex refl (calls-nothing x (valueIn (t .second)) bad) q
 
 -- ---- MARK
 
@@ -495,6 +475,10 @@ undone m m′ m″ depth d at start p ed ea q = p ∙ (rw (ed, ea) at q)
 pub good-stepped : (w w′ : List ℕ) (r : Registers) (h : ℕ) → Good w r → length w′ ≡ length w → h ≤ 128 → Good w′ (stepped r h)
 good-stepped w w′ r h g long fits = record { room = omega (arith, g .room); stack-fits = fits; depth-fits = g .depth-fits; cells-fit = g .cells-fit; errors-fit = omega (arith, g .errors-fit) }
 
+-- the bounds hold whatever `ok` says
+good-as : {w : List ℕ} {r : Registers} (b : Bool) → Good w r → Good w (record { height = r .height; depth = r .depth; used = r .used; steps = r .steps; errors = r .errors; skipping = r .skipping; ok = b })
+good-as b g = record { room = g .room; stack-fits = g .stack-fits; depth-fits = g .depth-fits; cells-fit = g .cells-fit; errors-fit = g .errors-fit }
+
 module _ (code : Code) (w₀ w : List ℕ) (r₀ r : Registers) (most left : ℕ) (g : Good w r) (runs : 0 < r .depth) (on : r .skipping ≡ false)
     (few : left ≤ most) (sum : r .steps + left ≡ r₀ .steps + most) (same : aside w ≡ aside w₀) (inv : run (most - left) code (abs w₀ r₀) ≡ abs w r) where
   -- it ends here
@@ -530,7 +514,7 @@ module _ (code : Code) (w₀ w : List ℕ) (r₀ r : Registers) (most left : ℕ
     sprint-ends long kept =
         let z : r .steps + 1 - r₀ .steps ≡ most - (left - 1) = omega arith in
         record {
-          good = record { room = omega (arith, g .room); stack-fits = fits; depth-fits = g .depth-fits; cells-fit = g .cells-fit; errors-fit = omega (arith, g .errors-fit) };
+          good = good-as _ (good-stepped w w′ r h g long fits);
           runs = runs;
           on = on;
           keeps = kept ∙ same;
@@ -550,7 +534,7 @@ module _ {code : Code} {w w₁ : List ℕ} {r q : Registers} (most : ℕ) (t : S
   led-ends {w′} r′ p o d e =
       rw e
       (record {
-        good = record { room = d .good .room; stack-fits = d .good .stack-fits; depth-fits = d .good .depth-fits; cells-fit = d .good .cells-fit; errors-fit = d .good .errors-fit };
+        good = good-as _ (d .good);
         does = (rw (d .counted) (t .ends o)) ∙ sym (d .does);
         keeps = d .keeps ∙ t .keeps;
         since = omega (arith, d .counted, t .since);
@@ -566,7 +550,7 @@ module _ {code : Code} {w w₁ : List ℕ} {r q : Registers} (most : ℕ) (t : S
   led-stops r′ b o m eb e =
       rw e
       (record {
-        good = record { room = t .good .room; stack-fits = t .good .stack-fits; depth-fits = t .good .depth-fits; cells-fit = t .good .cells-fit; errors-fit = t .good .errors-fit };
+        good = good-as _ (t .good);
         does = t .does o;
         keeps = t .keeps;
         since = t .since;
@@ -579,7 +563,7 @@ module _ {code : Code} {w w₁ : List ℕ} {r q : Registers} (most : ℕ) (t : S
 
 -- the step is the same whatever `ok` says
 pub quiet : {pre body w w′ : List ℕ} {r r′ : Registers} → Stepped pre body w r w′ r′ → Stepped pre body w r w′ (record { height = r′ .height; depth = r′ .depth; used = r′ .used; steps = r′ .steps; errors = r′ .errors; skipping = r′ .skipping; ok = false })
-quiet d = record { good = record { room = d .good .room; stack-fits = d .good .stack-fits; depth-fits = d .good .depth-fits; cells-fit = d .good .cells-fit; errors-fit = d .good .errors-fit }; does = d .does; keeps = d .keeps; counted = d .counted }
+quiet d = record { good = good-as _ (d .good); does = d .does; keeps = d .keeps; counted = d .counted }
 
 -- a literal passed over after others
 module _ (pre body w₀ w : List ℕ) (r₀ r : Registers) (most left : ℕ) (runs : 0 < r .depth) (few : left ≤ most) (sum : r .steps + left ≡ r₀ .steps + most) (same : aside w ≡ aside w₀)
@@ -589,7 +573,7 @@ module _ (pre body w₀ w : List ℕ) (r₀ r : Registers) (most left : ℕ) (ru
   led-here g h x =
       let z : r .steps - r₀ .steps ≡ most - left = omega arith in
       record {
-        good = record { room = g .room; stack-fits = g .stack-fits; depth-fits = g .depth-fits; cells-fit = g .cells-fit; errors-fit = g .errors-fit };
+        good = good-as _ g;
         does = rw z inv;
         keeps = same;
         since = omega arith;

@@ -29,11 +29,16 @@ raised r h = record { height = h; depth = r .depth; used = r .used; steps = r .s
 abbrev pub origin : List ℕ → ℕ → ℕ
 origin w depth = running (contextsOf (slots w) depth) .origin
 
--- what means f done within a step: it leaves the stack h high, marks no higher than before, and the same body running
-pub record Flat (f : State → Option State) (w : List ℕ) (r : Registers) (w′ : List ℕ) (h : ℕ) : Type 0 where
-  pub made : h ≤ mostEntries → Tried f w r w′ (raised r h)
+-- marks stand no higher than before, the same body runs, and the frame kept aside is as it was
+pub record Stays (w : List ℕ) (r : Registers) (w′ : List ℕ) (h : ℕ) : Type 0 where
   pub low : h ≤ mostEntries → marked w′ h ≤ marked w (r .height)
   pub here : h ≤ mostEntries → origin w′ (r .depth) ≡ origin w (r .depth)
+  pub keeps : h ≤ mostEntries → aside w′ ≡ aside w
+
+-- what means f done within a step: it leaves the stack h high
+pub record Flat (f : State → Option State) (w : List ℕ) (r : Registers) (w′ : List ℕ) (h : ℕ) : Type 0 where
+  pub made : h ≤ mostEntries → Tried f w r w′ (raised r h)
+  pub stays : Stays w r w′ h
   pub back : mostEntries < h → w′ ≡ w
 
 -- the registers after a step that leaves the stack so high
@@ -52,12 +57,6 @@ pub record Ready (code : Code) (b : List ℕ) (at : ℕ) (w : List ℕ) (r : Reg
   pub few : r .steps < 4294967295
   pub bytes : b ≡ bytesOf code (origin w (r .depth))
   pub place : at ≡ running (contextsOf (slots w) (r .depth)) .at
-
--- marks stand no higher than before, the same body runs, and the frame kept aside is as it was
-pub record Stays (w : List ℕ) (r : Registers) (w′ : List ℕ) (h : ℕ) : Type 0 where
-  pub low : h ≤ mostEntries → marked w′ h ≤ marked w (r .height)
-  pub here : h ≤ mostEntries → origin w′ (r .depth) ≡ origin w (r .depth)
-  pub keeps : h ≤ mostEntries → aside w′ ≡ aside w
 
 -- a step but for the end of bodies, of the literal at `at`
 pub record Strode (code : Code) (at : ℕ) (w : List ℕ) (r : Registers) (w′ : List ℕ) (h : ℕ) : Type 0 where

@@ -65,8 +65,9 @@ unmarks-other (WithBody n s l) h = refl
 
 -- ---- the literal there
 
-pub passes-due : (f : Found) (d : Due) (r : Ahead) → Is f d → (r .next ≡ d .next) × (r .unmarks ≡ isUnmark0 (d .literal)) → Passes f r
-passes-due f d r i t = record { next = t .0 ∙ i .next; unmarks = t .1 ∙ ap isUnmark0 (i .literal) }
+-- told of a literal that is the same
+pub passes-as : {f g : Found} {d : Due} {r : Ahead} → f ≡ g → Is g d → (r .next ≡ d .next) × (r .unmarks ≡ isUnmark0 (d .literal)) → Passes f r
+passes-as {f} {g} {d} {r} e i t = rw e (record { next = t .0 ∙ i .next; unmarks = t .1 ∙ ap isUnmark0 (i .literal) })
 
 -- a token that is neither a comment nor an operator
 over : (b : List ℕ) (at next past : ℕ) (t : Read) → NoComment t → NoOperator t → passOf t ≡ pass.Over next → past ≡ solid b next → Passes (foundBy b at t) (record { next = past; unmarks = false })
@@ -109,6 +110,10 @@ module _ (b : List ℕ) (at : ℕ) where
     unfolding foundAt foundBy
     operator-found n next e = rw (operator-shown b at f n next e h)
 
+    pub plain-found : (n next past : ℕ) → f ≡ form.Operator n next → past ≡ solid b next → roleOf n ≡ role.Plain → foundAt b at ≡ record { literal = Plain n; next = past }
+    unfolding operatorBy
+    plain-found n next past e p i = operator-found n next e ∙ (rw (i, ← p))
+
     pub cut-found : f ≡ form.Cut → foundAt b at ≡ nothingAt b
     unfolding foundAt foundBy
     cut-found e = rw (cut-shown b at f e h)
@@ -116,15 +121,10 @@ module _ (b : List ℕ) (at : ℕ) where
 -- ---- an operator without a body
 
 pub bare-there : (b : List ℕ) (at : ℕ) (f : Form) (n next past : ℕ) (r : Role) → Shows b at f → f ≡ form.Operator n next → r ≡ roleOf n → r ≡ role.Plain → past ≡ solid b next → Tells b at (record { number = n; next = past })
-unfolding operatorBy
 bare-there b at f n next past r h e i j p = record {
-  there = λ _. operator-found b at f h n next e ∙ (rw (← i, j, ← p));
+  there = λ _. plain-found b at f h n next past e p (sym i ∙ j);
   inside = λ _. omega (arith, p, solid-inside b next (operator-ends b at f n next e h .1));
 }
 
 pub bare-untold : (b : List ℕ) (at next n : ℕ) → n ≡ 0 → Tells b at (record { number = n; next = next })
 bare-untold b at next n e = record { there = λ f. absurd (f e); inside = λ f. absurd (f e) }
-
--- ---- the literal f, told of another that is the same
-pub passes-as : {f g : Found} {d : Due} {r : Ahead} → f ≡ g → Is g d → (r .next ≡ d .next) × (r .unmarks ≡ isUnmark0 (d .literal)) → Passes f r
-passes-as {f} {g} {d} {r} e i t = passes-due f d r (rw e i) t

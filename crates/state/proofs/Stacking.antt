@@ -297,6 +297,22 @@ module _ {w : List ℕ} {r : Registers} (n : ℕ) (b : Bool) (g : Busy w r) (eb 
           ap (λ k. entriesAt m a (n - j) ++ (entriesAt m k j ++ stackOf m a)) e′) in
           rw q (tried-yes (omega arith) (aside-above w w′ sm) refl refl (turn-is ∙ fits-stack w r turned g (omega (arith, turned-long)) ∙ ap some (sym (stack-only w w′ r h turned g sm st))))
 
+-- ---- two are enough to know whether there are a, of at most two
+
+pub fewer : (vs : List Value) (a : ℕ) → a ≤ 2 → length (take 2 vs) < a → length vs < a
+fewer [] a h l = l
+fewer (x ∷ []) a h l = l
+fewer (x ∷ y ∷ vs) a h l = absurd (omega arith)
+
+pub enough-there : (vs : List Value) (a : ℕ) → a ≤ length (take 2 vs) → a ≤ length vs
+enough-there [] a l = l
+enough-there (x ∷ []) a l = l
+enough-there (x ∷ y ∷ vs) a l = omega arith
+
+-- the height does not fall below the bottom
+pub tops-fit : (m : List Slot) (height a : ℕ) (t : Tops) → Topmost (above (stackOf m height)) t → a ≤ t .count → a ≤ height
+tops-fit m height a t et h = let c = et .count in omega (arith, enough-there (above (stackOf m height)) a (omega arith), above-few (stackOf m height), length-stack m height)
+
 -- ---- EXCH
 
 -- two slots with the same values
@@ -315,27 +331,14 @@ module _ {w : List ℕ} {r : Registers} (t : Tops) (g : Busy w r) (et : Topmost 
   unfolding turn provided
   exchange-few {r′} h q =
       let vs = above (stackOf (slots w) (r .height)) in
-      tried-no g (rw (lt-leb 2 (length vs) (fewer vs (omega (arith, et .count))))) q
-    where
-      fewer : (l : List Value) → length (take 2 l) < 2 → length l < 2
-      fewer [] k = k
-      fewer (x ∷ []) k = k
-      fewer (x ∷ y ∷ l) k = absurd (omega arith)
+      tried-no g (rw (lt-leb 2 (length vs) (fewer vs 2 (omega arith) (omega (arith, et .count))))) q
 
-  pub two-high : 2 ≤ t .count → 2 ≤ length (above (stackOf (slots w) (r .height)))
-  two-high h = enough (above (stackOf (slots w) (r .height))) (omega (arith, et .count))
-    where
-      enough : (l : List Value) → 2 ≤ length (take 2 l) → 2 ≤ length l
-      enough [] k = k
-      enough (x ∷ []) k = k
-      enough (x ∷ y ∷ l) k = omega arith
-
-  pub exchange-fits : 2 ≤ t .count → 2 ≤ r .height
-  exchange-fits h = omega (arith, two-high h, above-few (stackOf (slots w) (r .height)), length-stack (slots w) (r .height))
+  two-there : 2 ≤ t .count → 2 ≤ length (above (stackOf (slots w) (r .height)))
+  two-there h = enough-there (above (stackOf (slots w) (r .height))) 2 (omega (arith, et .count))
 
   pub exchange-yes : {w′ : List ℕ} {q r′ : Registers} (x y : Slot) → 2 ≤ t .count → valueIn x ≡ valueIn (t .first) → valueIn y ≡ valueIn (t .second) → q ≡ trying r (r .height - 2) (r .depth) (r .used) (r .ok)
       → Tried (pushTwo (valueIn x) (valueIn y)) w q w′ r′ → Tried (turn 2 1) w r w′ r′
   exchange-yes {w′} {q} {r′} x y h ex ey eq d =
       let vs = above (stackOf (slots w) (r .height)) in
       let z : length vs ≤ r .height = omega (arith, above-few (stackOf (slots w) (r .height)), length-stack (slots w) (r .height)) in
-      tried-from (swapped (abs w r) vs refl (two-high h) ∙ (rw (eq, pops-is w r 2 (length vs) (r .ok) (two-high h) z refl, ex, ey, et .first, et .second))) (rw eq) d
+      tried-from (swapped (abs w r) vs refl (two-there h) ∙ (rw (eq, pops-is w r 2 (length vs) (r .ok) (two-there h) z refl, ex, ey, et .first, et .second))) (rw eq) d

@@ -1,7 +1,8 @@
 -- `steps::holder` meets its contract. Assumes nothing.
 use borrow.Author.Needs.{needs}
 use mathlib.Core.Path.{refl}
-use Rattle.engine.proofs.Stepping.{busy-lower, holder-few, tops-fit, holder-done}
+use Rattle.state.proofs.Stacking.{tops-fit}
+use Rattle.engine.proofs.Stepping.{busy-lower, holder-few, holder-done}
 use Prim.Native.Nat.{_-_}
 use Rattle.engine.proofs.steps.holder.Statement.{statement}
 use Rattle.engine.proofs.steps.holder.Tie as tie

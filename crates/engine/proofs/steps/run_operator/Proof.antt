@@ -1,6 +1,6 @@
 -- `steps::run_operator` meets its contract. Assumes nothing.
 use Rattle.engine.proofs.Swiftly.{do-few, do-made, do-fails}
-use Rattle.engine.proofs.Stepping.{tops-fit}
+use Rattle.state.proofs.Stacking.{tops-fit}
 use mathlib.Core.Path.{refl}
 use borrow.Author.Needs.{needs}
 use Rattle.engine.proofs.steps.run_operator.Statement.{statement}

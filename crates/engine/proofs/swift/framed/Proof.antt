@@ -2,7 +2,8 @@
 use Rattle.engine.proofs.Level.{flat-undone}
 use Rattle.engine.proofs.Swiftly.{frame-one, by-frame}
 use Rattle.effects.proofs.Acting.{is-acts, by-works, by-store, at-fetch}
-use Rattle.engine.proofs.Stepping.{tops-fit, plain-flat}
+use Rattle.state.proofs.Stacking.{tops-fit}
+use Rattle.engine.proofs.Stepping.{plain-flat}
 use Rattle.machine.specs.declared.Op.the-variants.{OnFrame}
 use Rattle.state.specs.Layout.{valueIn}
 use mathlib.Core.Path.{refl}

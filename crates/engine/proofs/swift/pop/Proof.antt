@@ -1,6 +1,6 @@
 -- `swift::pop` meets its contract. Assumes nothing.
 use Rattle.engine.proofs.Swiftly.{pop-flat}
-use Rattle.engine.proofs.Stepping.{tops-fit}
+use Rattle.state.proofs.Stacking.{tops-fit}
 use native.Mathlib.Omega.{arith}
 use Rattle.engine.proofs.Level.{flat-undone}
 use borrow.Author.Needs.{needs}

@@ -2,7 +2,8 @@
 use Rattle.engine.proofs.Level.{flat-undone}
 use Rattle.engine.proofs.Swiftly.{by-arith}
 use Rattle.effects.proofs.Acting.{is-gives}
-use Rattle.engine.proofs.Stepping.{tops-fit, plain-flat}
+use Rattle.state.proofs.Stacking.{tops-fit}
+use Rattle.engine.proofs.Stepping.{plain-flat}
 use Rattle.machine.specs.declared.Op.the-variants.{Reckons}
 use mathlib.Core.Path.{refl}
 use native.Mathlib.Omega.{arith}

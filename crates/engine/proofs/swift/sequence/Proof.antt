@@ -1,6 +1,6 @@
 -- `swift::sequence` meets its contract. Assumes nothing.
-use Rattle.engine.proofs.Swiftly.{figure-flat, name-flat, found-due, strode, strode-none, stays, stays-none}
-use Rattle.engine.proofs.Level.{flat-of}
+use Rattle.engine.proofs.Swiftly.{figure-flat, name-flat, found-due, strode, strode-none, stays}
+use Rattle.engine.proofs.Level.{flat-of, stays-none}
 use Rattle.effects.proofs.ByOrigin.{due-fits}
 use Rattle.engine.proofs.Stepping.{by-figure, by-name}
 use mathlib.Core.Path.{refl}

@@ -1,7 +1,8 @@
 -- `reading::ahead` meets its contract. Assumes nothing.
 use Rattle.skeleton.proofs.BodyTurns.{sequence-shown, operator-ends}
-use Rattle.literals.proofs.Passing.{number-over, operator-found, cut-found, passes-due, passes-as}
+use Rattle.literals.proofs.Passing.{number-over, operator-found, cut-found, passes-as}
 use borrow.Author.Needs.{needs}
+use mathlib.Core.Path.{refl}
 use Rattle.literals.proofs.reading.ahead.Statement.{statement}
 use Rattle.literals.proofs.reading.ahead.Tie as tie
 
@@ -26,5 +27,5 @@ ahead-spec =
     (λ c κs. search needs)
     (λ c. number-over _ _ _ (c .before .before .before .before .form-at .ensures) _ _ _ (c .before .before .next .given .1) (c .past-comments .ensures))
     (λ c. passes-as (operator-found _ _ _ (c .before .before .before .before .before .form-at .ensures) _ _ (c .before .before .before .number .given .1)) (c .before .operator .ensures) (c .told .ensures))
-    (λ c. passes-due _ _ _ (c .before .due .ensures) (c .told2 .ensures))
+    (λ c. passes-as refl (c .before .due .ensures) (c .told2 .ensures))
     (λ c. passes-as (cut-found _ _ _ (c .before .before .before .before .form-at .ensures) (c .before .before .enum-told2 .given .1)) (c .before .nothing .ensures) (c .told3 .ensures)))
