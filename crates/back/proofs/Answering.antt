@@ -14,10 +14,10 @@ use Rattle.tokens.specs.declared.Refusal.{Refusal}
 use Rattle.tokens.specs.declared.Refusal.the-variants.{BadHeader, TooLong, TableTooShort}
 use Rattle.tokens.specs.Format.{header, starts}
 use Rattle.lists.specs.declared.Survey.the-variants.{Sound, Broken}
-use Rattle.lists.specs.Tokens.{Token}
+use Rattle.items.specs.Tokens.{Token}
 use Rattle.lists.specs.Reading.{Got, got, refused, readList}
 use Rattle.lists.specs.Promise.{over, textsOf, listOf, holds, readAnswer, listLeaves, textLeaves, ReadsBack}
-use Rattle.back.specs.Filling.{tokensIn, surveyOf, Holds, tokensGot, Fills}
+use Rattle.filling.specs.Filling.{tokensIn, surveyOf, Holds, tokensGot, Fills}
 use Rattle.lists.proofs.SameTables.{list-length}
 
 -- ---- the survey's answer

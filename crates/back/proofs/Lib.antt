@@ -1,5 +1,2 @@
-pub mod Copying
-pub mod Surveying
-pub mod Placing
-pub mod Filled
+-- The laws. Assumes nothing.
 pub mod Answering

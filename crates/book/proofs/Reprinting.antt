@@ -1,74 +1,26 @@
--- One body of a master reprinted. In order: its result; the promise of `reprint`. Assumes nothing.
-use Prim.Native.Nat.{ℕ, zero, suc, _+_, _*_, _<_, _≤_}
+-- One body of a master reprinted: the promise of `reprint`. Assumes nothing.
+use Prim.Native.Nat.{ℕ, _+_, _<_, _≤_}
 use native.Mathlib.Omega.{arith}
 use mathlib.Core.Path.{_≡_, refl, sym, ap, _∙_}
 use mathlib.Core.Bool.{Bool, true, false, _&&_, false≢true}
-use mathlib.Core.List.{List, _++_, append-assoc}
+use mathlib.Core.List.{List, _++_}
 use lib.Dec.{leb, ltb}
 use lib.IntN.{ℤ, pos, negsuc, natAbs}
 use lib.Signed.{leZ, ltZ}
-use lib.ListN.{length, getD, take, drop, replicate}
-use lib.Seq.{slice, sets, sets-eq}
-use mir.Syntax.{w64}
-use mir.Val.{SFits}
+use lib.ListN.{length, drop}
 use borrow.Author.Tests.{leb-true, lt-leb, le-leb, lt-ltb, le-ltb}
 use Rattle.numbers.proofs.Cond.{both, split}
 use Rattle.tokens.specs.declared.Refusal.{Refusal}
-use Rattle.tokens.specs.declared.Refusal.the-variants.{PreambleUnfinished, NoSuchPage}
+use Rattle.tokens.specs.declared.Refusal.the-variants.{NoSuchPage}
 use Rattle.tokens.specs.declared.Outcome.{Outcome}
-use Rattle.tokens.specs.declared.Outcome.the-variants.{Done, Refused}
-use Rattle.machine.specs.Limits.{scratchSize, rowsSize, sectionsSize}
-use Rattle.machine.specs.Step.{outcome}
-use Rattle.machine.specs.Page.{Result, preambleResult, resultOf, resultAt, rowBytes, sectionBytes}
-use Rattle.machine.specs.Promise.{Verdict, accepted, unfinished, halted, finished, over, spliced, scratchLeaves, paged, reprintVerdict, reprintAnswer, rowLeaves, sectionsLeaves, Reprints}
-use Rattle.state.specs.declared.Registers.{Registers}
-use Rattle.state.specs.Layout.{abs}
+use Rattle.tokens.specs.declared.Outcome.the-variants.{Refused}
+use Rattle.machine.specs.Limits.{mostPages, scratchSize, rowsSize, sectionsSize}
+use Rattle.machine.specs.Promise.{halted, finished, scratchLeaves, paged, reprintVerdict, reprintAnswer, rowLeaves, sectionsLeaves, Reprints}
 use Rattle.skeleton.specs.Spans.{Placed}
-use Rattle.prints.specs.Ran.{Preambled, Paged, Goes, Admitted, Holds, Shown, Reprinted}
-use Rattle.prints.proofs.Admitting.{natural-is, steps-fit}
-use Rattle.prints.proofs.Walking.{row-long, result-at}
-use Rattle.prints.proofs.Paging.{result-is}
-use Rattle.book.proofs.Booking.{ends, ran-out, ran-on, ready-of, scratch-clear}
-
-splices : (at : ℕ) (b l : List ℕ) → at + length b ≤ length l → sets l at b ≡ spliced at b l
-unfolding spliced
-splices at b l h = sets-eq b l at h ∙ append-assoc (take at l) b (drop (at + length b) l)
-
--- ---- the result of a body
-
-module _ (s t : List ℕ) (bodies : List (List ℕ)) (a : ℕ) (w : List ℕ) (q : Registers) (l : Placed s t bodies) (p : Preambled (slice (getD t 0 0) (getD t 1 0) s) a w q) where
-  -- the preamble's
-  pub shown-first : {rows rows′ sections sections′ : List ℕ} (page : ℕ) → page ≡ 0 → Shown (resultOf 0 (abs w q)) 0 rows rows′ sections sections′ → Shown (resultAt a bodies page) page rows rows′ sections sections′
-  unfolding resultAt preambleResult
-  shown-first page e x = rw (e, ← (ends s t bodies a w q l p)) x
-
-  -- a page's
-  pub shown-page : {rows rows′ sections sections′ : List ℕ} (page : ℕ) (w′ : List ℕ) (r : Registers) → 1 ≤ page → page < length bodies
-      → Paged (slice (getD t 0 0) (getD t 1 0) s) (slice (getD t (2 * page) 0) (getD t (2 * page + 1) 0) s) (q .used) a w w′ r
-      → Shown (resultOf (q .used) (abs w′ r)) page rows rows′ sections sections′ → Shown (resultAt a bodies page) page rows rows′ sections sections′
-  shown-page page w′ r h k g x =
-      rw (result-at s t a page bodies h k l, ← (result-is (slice (getD t 0 0) (getD t 1 0) s) (slice (getD t (2 * page) 0) (getD t (2 * page + 1) 0) s) a (q .used) w w′ r (ready-of _ a w q p) g)) x
-
-  pub one-unfinished : (page o : ℕ) (w′ rows sections : List ℕ) (r : Outcome) → ((v : List ℕ) → o ≡ outcome (abs v q)) → o ≡ 3 → w′ ≡ replicate scratchSize 0 → r ≡ Refused PreambleUnfinished 0
-      → Reprinted a page bodies w′ rows rows sections sections r
-  unfolding reprintAnswer rowLeaves sectionsLeaves
-  one-unfinished page o w′ rows sections r f e c g =
-      let u = ran-out s t bodies a w q l p o f e in
-      record { answer = rw u g; clear = c; rows-are = rw u refl; sections-are = rw u refl }
-
-  pub one-ran : (page o : ℕ) (w′ rows rows′ sections sections′ : List ℕ) → page < length bodies → 8208 ≤ length rows → ((v : List ℕ) → o ≡ outcome (abs v q)) → (o ≡ 3 → ⊥) → w′ ≡ replicate scratchSize 0
-      → ((bodies : List (List ℕ)) → Placed s t bodies → page < length bodies → Shown (resultAt a bodies page) page rows rows′ sections sections′) → Reprinted a page bodies w′ rows rows′ sections sections′ (Done page)
-  unfolding reprintAnswer rowLeaves sectionsLeaves
-  one-ran page o w′ rows rows′ sections sections′ h room f e c g =
-      let u = ran-on s t bodies a w q l p o f e in
-      let x = g bodies l h in
-      let fits : 16 * page + length (rowBytes (resultAt a bodies page)) ≤ length rows = omega (arith, row-long (resultAt a bodies page), l .few) in
-      record { answer = rw u refl; clear = c; rows-are = rw u (x .row ∙ splices (16 * page) (rowBytes (resultAt a bodies page)) rows fits); sections-are = rw u (x .sections-are) }
-
-pub shows : (x : Result) (page : ℕ) (rows rows′ sections sections′ : List ℕ) → rows′ ≡ sets rows (16 * page) (rowBytes x) → sections′ ≡ over (sectionBytes x) sections → Shown x page rows rows′ sections sections′
-shows x page rows rows′ sections sections′ e f = record { row = e; sections-are = f }
-
--- ---- the promise of `reprint`
+use Rattle.prints.specs.Ran.{Holds, Reprinted}
+use Rattle.admission.specs.Judged.{Goes, Admitted}
+use Rattle.admission.proofs.Admitting.{natural-is, steps-fit}
+use Rattle.book.proofs.Booking.{scratch-clear}
 
 -- a page that is there, or is not
 up-to : (n last many : ℕ) → many ≡ last + 1 → leb n last ≡ ltb n many
@@ -121,8 +73,8 @@ page-held {last = last} {n = n} page l g e f = record { wide = l; bodies = g .bo
 pub page-counts : {x z : ℤ} (last : ℕ) → x ≡ z → leZ (pos 0) z && leZ z (pos last) ≡ true → leZ (pos 0) x ≡ true
 page-counts {z = z} last e f = rw e (both (leZ (pos 0) z) (leZ z (pos last)) f .0)
 
-pub page-fits : {s t : List ℕ} {z : ℤ} {b : Bool} {last : ℕ} → Goes s z b t last → SFits w64 (pos last)
-page-fits g = record { sfits = omega (arith, g .placed .few, g .many) }
+pub few-pages : {s t : List ℕ} {z : ℤ} {b : Bool} {last : ℕ} → Goes s z b t last → last ≤ mostPages
+few-pages g = omega (arith, g .placed .few, g .many)
 
 pub reprint-room : {s t : List ℕ} {z : ℤ} {last : ℕ} (scratch rows sections : ℕ) → Goes s z (leb scratchSize scratch && (leb rowsSize rows && leb sectionsSize sections)) t last → (scratchSize ≤ scratch) × (rowsSize ≤ rows) × (sectionsSize ≤ sections)
 reprint-room scratch rows sections g =

@@ -1,3 +1,2 @@
 // `run` and `reprint`: a master's bodies run in the lent table, each page from what the preamble left.
 pub mod calls; // the public calls
-mod books; // every body of a master, or one of them

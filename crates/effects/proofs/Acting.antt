@@ -25,7 +25,7 @@ use Rattle.machine.specs.Literal.{Code, textOf}
 use Rattle.machine.specs.Operand.{natural}
 use Rattle.machine.specs.Contexts.{beneath}
 use Rattle.machine.specs.Engine.{provided, push, allCardinals, elementsOf, bit, build, spell, compose, repeat, turn, worked, store, place, remove, tally, inline, call, does, affected}
-use Rattle.operators.specs.Sizes.{SizedWork, SizedNext, Sized}
+use Rattle.operands.specs.Sizes.{SizedWork, SizedNext, Sized}
 use Rattle.literals.specs.Names.{both, dataAt, sameText}
 use Rattle.state.specs.declared.Place as at
 use Rattle.state.specs.declared.Registers.{Registers}
@@ -213,6 +213,10 @@ module _ {w : List ℕ} {r : Registers} (code : Code) (e : Effect) where
     pub is-acts : (x : Next) → e ≡ Acts x → Tried (does code x) w r w′ r′ → Tried (affected code e) w r w′ r′
     unfolding affected
     is-acts x i t = rw i t
+
+    -- the same effect, told by its parts
+    pub is-told : (f : Effect) → e ≡ f → Tried (affected code f) w r w′ r′ → Tried (affected code e) w r w′ r′
+    is-told f i t = rw i t
 
 -- ---- marks stand within the stack
 

@@ -24,7 +24,9 @@ use Rattle.literals.specs.declared.Due.{Due}
 use Rattle.literals.specs.Dues.{Is, Passes}
 use Rattle.literals.proofs.Passing.{comments-end, solid-inside}
 use Rattle.literals.specs.Names.{both}
-use Rattle.effects.specs.Bodies.{Short}
+use Rattle.tokens.proofs.Theorems.{token-end}
+use Rattle.spans.specs.Memo.{Noted}
+use Rattle.effects.specs.Bodies.{Short, Noting}
 
 pub bytes-short : (pre body : List ℕ) (o : ℕ) → Short pre body → length (bytesOf (both pre body) o) ≤ longest
 bytes-short pre body zero h = h .pre-fits
@@ -91,3 +93,17 @@ due-fits b at d l i = omega (arith, i .next, next-inside b at)
 
 pub ahead-fits : (b : List ℕ) (at : ℕ) (a : Ahead) → length b ≤ 16777215 → Passes (foundAt b at) a → a .next < 4294967296
 ahead-fits b at a l p = omega (arith, p .next, next-inside b at)
+
+-- ---- a literal by the notes
+
+module _ {d : Due} {t u : List ℕ} (pre body : List ℕ) (o at : ℕ) (g : Noting pre body t u) where
+  pub due-early : {t′ : List ℕ} → o ≡ 0 → Is (foundAt pre at) d × Noted pre t′ → Is (foundAt (bytesOf (both pre body) o) at) d × Noting pre body t′ u
+  due-early e h = (rw e (h .0), record { in-pre = h .1; in-body = g .in-body })
+
+  pub due-own : {u′ : List ℕ} → o ≡ 1 → Is (foundAt body at) d × Noted body u′ → Is (foundAt (bytesOf (both pre body) o) at) d × Noting pre body t u′
+  due-own e h = (rw e (h .0), record { in-pre = g .in-pre; in-body = h .1 })
+
+  -- where there are no bytes
+  pub due-none : (o ≡ 0 → ⊥) → (o ≡ 1 → ⊥) → d ≡ record { literal = Plain 0; next = 0 } → Is (foundAt (bytesOf (both pre body) o) at) d × Noting pre body t u
+  unfolding foundAt foundBy nothingAt
+  due-none f k e = (rw (e, ← (nothing-there pre body o f k), token-end [] at (omega arith)) (record { literal = refl; next = refl }), g)

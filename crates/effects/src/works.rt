@@ -9,7 +9,7 @@ ghost use Rattle.machine.specs.State.{running};
 ghost use Rattle.machine.specs.Literal.{Code, textOf};
 ghost use Rattle.machine.specs.Operand.{natural};
 ghost use Rattle.machine.specs.Engine.{spell, inline, call, worked, does, affected};
-ghost use Rattle.operators.specs.Sizes.{SizedWork, SizedNext, Sized};
+ghost use Rattle.operands.specs.Sizes.{SizedWork, SizedNext, Sized};
 ghost use Rattle.state.specs.Layout.{Busy, Tried};
 ghost use Rattle.literals.specs.Names.{both, dataAt};
 ghost use Rattle.effects.specs.Bodies.{Short};
@@ -36,7 +36,7 @@ pub fn spell<'a>(
 }
 
 // A body of the running one entered with a copy of its frame.
-fn inline<'a>(
+pub fn inline<'a>(
     w: &mut [u8],
     r: Registers,
     pre: &'a [u8],
@@ -150,7 +150,7 @@ fn matches<'a>(
 }
 
 // Nothing more is done.
-fn done(r: Registers) -> Registers
+pub fn done(r: Registers) -> Registers
     ensures { λ q. ⌜ q ≡ record { height = r .height; depth = r .depth; used = r .used; steps = r .steps; errors = r .errors; skipping = r .skipping; ok = true } ⌝ }
 {
     let mut q = r;
@@ -235,9 +235,9 @@ fn act<'a>(w: &mut [u8], r: Registers, pre: &'a [u8], body: &'a [u8], x: Next) -
             first,
         } => call(w, r, pre, body, origin, start, len, first),
         Next::Store { j } => contexts::frames::store(w, r, table::words::size(j)),
-        Next::Place { count } => recovery::marks::place(w, r, table::words::size(count)),
-        Next::Remove { count } => recovery::marks::remove(w, r, table::words::size(count)),
-        Next::Tally => recovery::marks::tally(w, r, r.height),
+        Next::Place { count } => marks::place(w, r, table::words::size(count)),
+        Next::Remove { count } => marks::remove(w, r, table::words::size(count)),
+        Next::Tally => marks::tally(w, r, r.height),
     }
 }
 

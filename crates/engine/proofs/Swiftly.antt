@@ -53,10 +53,10 @@ use Rattle.machine.specs.Contexts.{above, beneath, fault, settle}
 use Rattle.machine.specs.Engine.{provided, pops, repeat, turn, worked, place, remove, tally, call, does, affected}
 use Rattle.machine.specs.Step.{effectAt, execute, executed, isUnmark0, literalStep, begunIn, begun, stepBy, dueIn, step, run}
 use Rattle.machine.proofs.Inside.{token-inside}
-use Rattle.operators.specs.declared.Card.{Card}
-use Rattle.operators.specs.declared.Card.the-variants.{No, Is}
-use Rattle.operators.specs.Operands.{cardOf}
-use Rattle.operators.proofs.Reading.{no-operator, no-card, is-card}
+use Rattle.operands.specs.declared.Card.{Card}
+use Rattle.operands.specs.declared.Card.the-variants.{No, Is}
+use Rattle.operands.specs.Operands.{cardOf}
+use Rattle.operands.proofs.Reading.{no-operator, no-card, is-card}
 use Rattle.machine.proofs.Value.{the-type}
 use Rattle.literals.specs.declared.Due.{Due}
 use Rattle.literals.specs.Dues as dues
@@ -76,7 +76,8 @@ use Rattle.engine.specs.Swift.{marked, raised, origin, Flat, stepped, Ex
 use Rattle.effects.proofs.ByOrigin.{bytes-short}
 use Rattle.effects.proofs.Acting.{nothing-done, is-acts, by-call, by-place}
 use Rattle.engine.proofs.Level.{flat, flat-made, flat-of}
-use Rattle.engine.proofs.Stepping.{busy-lower, plain-few, plain-done, plain-fails, run-next, run-both}
+use Rattle.families.proofs.Executing.{busy-lower, plain-few, plain-done, plain-fails}
+use Rattle.engine.proofs.Stepping.{run-next, run-both}
 
 -- ---- an operator that the table has is no part of the skeleton
 

@@ -2,17 +2,19 @@
 ghost use mathlib.Core.Path.{_≡_};
 ghost use mathlib.Core.Bool.{true, false};
 ghost use Prim.Native.Nat.{_+_, _<_, _≤_};
-ghost use Rattle.machine.specs.declared.Literal.the-variants.{Plain, WithBody};
-ghost use Rattle.machine.specs.Literal.{Code};
+ghost use Rattle.machine.specs.declared.Literal.the-variants.{Plain};
+ghost use Rattle.machine.specs.Literal.{Code, bytesOf};
 ghost use Rattle.machine.specs.Step.{execute, run};
 ghost use Rattle.literals.specs.Names.{both};
 ghost use Rattle.state.specs.Layout.{abs, Good, Busy, Tried};
-ghost use Rattle.effects.specs.Bodies.{Short};
+ghost use Rattle.effects.specs.Bodies.{Short, Noting};
 ghost use Rattle.engine.specs.Steps.{SizedLiteral, Stepped, Ran};
 ghost use Rattle.engine.specs.Swift.{Executes, Ready, Attempted, Sprinted, Led, Onward};
 use machine::Literal;
+use machine::Op;
 use machine::Value;
-use operators::Card;
+use operands::Card;
+use spans::WORDS;
 use state::Registers;
 
 // An operator without a body: the values that it pops must stand above the topmost mark.
@@ -20,7 +22,7 @@ fn plain<'a>(w: &mut [u8], r: Registers, pre: &'a [u8], body: &'a [u8], n: u16) 
     requires { ⌜ Busy (now w) r × Short (now pre) (now body) ⌝ }
     ensures { λ q. ⌜ Tried (execute (both (now (pre .entry)) (now (body .entry))) (Plain n)) (now (w .entry)) r (now (w .exit)) q ⌝ }
 {
-    let o = operators::numbering::op_of(n);
+    let o = numbering::op_of(n);
     let a = operators::arity_of(o);
     let t = state::stack::tops(w, r.height);
     if a > t.count {
@@ -29,32 +31,6 @@ fn plain<'a>(w: &mut [u8], r: Registers, pre: &'a [u8], body: &'a [u8], n: u16) 
     let x = state::values::value_of(t.first);
     let y = state::values::value_of(t.second);
     let e = operators::effect_of(o, x, y);
-    let mut q = r;
-    q.height = r.height - a;
-    effects::works::affect(w, q, pre, body, e)
-}
-
-// An operator with its body.
-fn holder<'a>(
-    w: &mut [u8],
-    r: Registers,
-    pre: &'a [u8],
-    body: &'a [u8],
-    n: u16,
-    start: u32,
-    len: u32,
-) -> Registers
-    requires { ⌜ Busy (now w) r × Short (now pre) (now body) × (start + len < 4294967296) ⌝ }
-    ensures { λ q. ⌜ Tried (execute (both (now (pre .entry)) (now (body .entry))) (WithBody n start len)) (now (w .entry)) r (now (w .exit)) q ⌝ }
-{
-    let o = operators::numbering::body_op_of(n);
-    let a = operators::control::arity(o);
-    let t = state::stack::tops(w, r.height);
-    if a > t.count {
-        return state::stack::failed(r);
-    }
-    let x = state::values::value_of(t.first);
-    let e = operators::control::effect(o, start, len, x);
     let mut q = r;
     q.height = r.height - a;
     effects::works::affect(w, q, pre, body, e)
@@ -75,7 +51,15 @@ fn execute<'a>(w: &mut [u8], r: Registers, pre: &'a [u8], body: &'a [u8], x: Lit
             table::words::size(start),
         ),
         Literal::Plain { number } => plain(w, r, pre, body, number),
-        Literal::WithBody { number, start, len } => holder(w, r, pre, body, number, start, len),
+        Literal::WithBody { number, start, len } => families::holder(
+            w,
+            r,
+            pre,
+            body,
+            number,
+            start,
+            len,
+        ),
     }
 }
 
@@ -106,12 +90,12 @@ fn mark(w: &mut [u8], r: Registers) -> Registers
         return state::stack::failed(r);
     }
     let x = state::values::value_of(t.first);
-    match operators::operands::cardinal(x) {
+    match operands::values::cardinal(x) {
         Card::No => state::stack::failed(r),
         Card::Is(n) => {
             let mut q = r;
             q.height = r.height - 1;
-            recovery::marks::place(w, q, table::words::size(n))
+            marks::place(w, q, table::words::size(n))
         }
     }
 }
@@ -147,45 +131,92 @@ fn operator<'a>(w: &mut [u8], r: Registers, pre: &'a [u8], body: &'a [u8], n: u1
 {
     match n {
         186 => afresh(mark(w, afresh(r))),
-        192 => recovery::marks::remove(w, r, 0),
+        192 => marks::remove(w, r, 0),
         231 => afresh(run_operator(w, afresh(r), pre, body)),
-        _ => afresh(plain(w, afresh(r), pre, body, n)),
+        _ => match numbering::op_of(n) {
+            Op::OnVectors(k) => afresh(families::on_vectors(w, afresh(r), pre, body, k)),
+            Op::Tests(k) => afresh(families::on_tests(w, afresh(r), pre, body, k)),
+            Op::OnStack(k) => afresh(families::on_stack(w, afresh(r), pre, body, k)),
+            Op::Reckons(k) => afresh(families::on_numbers(w, afresh(r), pre, body, k)),
+            _ => afresh(plain(w, afresh(r), pre, body, n)),
+        },
     }
 }
 
 // ---- a step
 
-// The literal at `at` of the running body, whose bytes are b.
+// The literal at `at` of the running body, which has the origin o, read whole.
 fn literal<'a>(
     w: &mut [u8],
     r: Registers,
     pre: &'a [u8],
     body: &'a [u8],
-    b: &[u8],
+    early: &mut [u32],
+    notes: &mut [u32],
+    o: u32,
     at: usize,
 ) -> Registers
-    requires { ⌜ Ready (both (now pre) (now body)) (now b) at (now w) r × Short (now pre) (now body) ⌝ }
-    ensures { λ q. ⌜ Attempted (both (now (pre .entry)) (now (body .entry))) (now (w .entry)) r (now (w .exit)) q ⌝ }
+    requires { ⌜ Ready (both (now pre) (now body)) (bytesOf (both (now pre) (now body)) o) at (now w) r × Short (now pre) (now body) × Noting (now pre) (now body) (now early) (now notes) ⌝ }
+    ensures { λ q. ⌜ Attempted (both (now (pre .entry)) (now (body .entry))) (now (w .entry)) r (now (w .exit)) q × Noting (now (pre .entry)) (now (body .entry)) (now (early .exit)) (now (notes .exit)) ⌝ }
 {
-    let o = literals::reading::bare_operator(b, at);
-    if o.number != 0 {
-        let q = contexts::bodies::begin(w, r, table::words::word(o.next));
-        return operator(w, q, pre, body, o.number);
-    }
-    let d = literals::reading::due(b, at);
+    let d = effects::origins::due_of(pre, body, early, notes, o, at);
     let q = contexts::bodies::begin(w, r, table::words::word(d.next));
     let x = d.literal;
-    afresh(execute(w, afresh(q), pre, body, x))
+    execute(w, q, pre, body, x)
 }
 
-// A step with a literal that is not passed over.
-fn pace<'a>(w: &mut [u8], r: Registers, pre: &'a [u8], body: &'a [u8]) -> Registers
-    requires { ⌜ Good (now w) r × (0 < r .depth) × Executes (both (now pre) (now body)) (abs (now w) r) × (r .steps < 4294967295) × Short (now pre) (now body) ⌝ }
-    ensures { λ q. ⌜ Stepped (now (pre .entry)) (now (body .entry)) (now (w .entry)) r (now (w .exit)) q ⌝ }
+// A step with a literal that is read whole and not passed over.
+fn pace_noting<'a>(
+    w: &mut [u8],
+    r: Registers,
+    pre: &'a [u8],
+    body: &'a [u8],
+    early: &mut [u32],
+    notes: &mut [u32],
+) -> Registers
+    requires { ⌜ Good (now w) r × (0 < r .depth) × Executes (both (now pre) (now body)) (abs (now w) r) × (r .steps < 4294967295) × Short (now pre) (now body) × Noting (now pre) (now body) (now early) (now notes) ⌝ }
+    ensures { λ q. ⌜ Stepped (now (pre .entry)) (now (body .entry)) (now (w .entry)) r (now (w .exit)) q × Noting (now (pre .entry)) (now (body .entry)) (now (early .exit)) (now (notes .exit)) ⌝ }
+{
+    let c = contexts::bodies::running(w, r.depth);
+    let p = literal(
+        w,
+        r,
+        pre,
+        body,
+        early,
+        notes,
+        c.origin,
+        table::words::size(c.start),
+    );
+    if p.ok {
+        return recovery::ends::settle(w, p);
+    }
+    let mut q = r;
+    q.steps = r.steps + 1;
+    recovery::ends::fault(w, q)
+}
+
+// A step with a literal that is not passed over: most often an operator, told by its first bytes. Only the other literals ask for notes, and
+// they are left to `pace_noting`, so that what most steps do stays small.
+fn pace<'a>(
+    w: &mut [u8],
+    r: Registers,
+    pre: &'a [u8],
+    body: &'a [u8],
+    early: &mut [u32],
+    notes: &mut [u32],
+) -> Registers
+    requires { ⌜ Good (now w) r × (0 < r .depth) × Executes (both (now pre) (now body)) (abs (now w) r) × (r .steps < 4294967295) × Short (now pre) (now body) × Noting (now pre) (now body) (now early) (now notes) ⌝ }
+    ensures { λ q. ⌜ Stepped (now (pre .entry)) (now (body .entry)) (now (w .entry)) r (now (w .exit)) q × Noting (now (pre .entry)) (now (body .entry)) (now (early .exit)) (now (notes .exit)) ⌝ }
 {
     let c = contexts::bodies::running(w, r.depth);
     let b = effects::origins::bytes_of(pre, body, c.origin);
-    let p = literal(w, r, pre, body, b, table::words::size(c.start));
+    let x = literals::reading::bare_operator(b, table::words::size(c.start));
+    if x.number == 0 {
+        return afresh(pace_noting(w, afresh(r), pre, body, early, notes));
+    }
+    let s = contexts::bodies::begin(w, r, table::words::word(x.next));
+    let p = operator(w, s, pre, body, x.number);
     if p.ok {
         return afresh(recovery::ends::settle(w, p));
     }
@@ -255,15 +286,49 @@ fn lead<'a>(w: &mut [u8], r: Registers, pre: &'a [u8], body: &'a [u8], most: usi
 }
 
 // At least one step, at most so many.
-fn onward<'a>(w: &mut [u8], r: Registers, pre: &'a [u8], body: &'a [u8], most: usize) -> Registers
-    requires { ⌜ Good (now w) r × (0 < r .depth) × (0 < most) × (r .steps + most ≤ 1000000) × Short (now pre) (now body) ⌝ }
-    ensures { λ q. ⌜ Onward (both (now (pre .entry)) (now (body .entry))) most (now (w .entry)) r (now (w .exit)) q ⌝ }
+fn onward<'a>(
+    w: &mut [u8],
+    r: Registers,
+    pre: &'a [u8],
+    body: &'a [u8],
+    early: &mut [u32],
+    notes: &mut [u32],
+    most: usize,
+) -> Registers
+    requires { ⌜ Good (now w) r × (0 < r .depth) × (0 < most) × (r .steps + most ≤ 1000000) × Short (now pre) (now body) × Noting (now pre) (now body) (now early) (now notes) ⌝ }
+    ensures { λ q. ⌜ Onward (both (now (pre .entry)) (now (body .entry))) most (now (w .entry)) r (now (w .exit)) q × Noting (now (pre .entry)) (now (body .entry)) (now (early .exit)) (now (notes .exit)) ⌝ }
 {
     let q = lead(w, r, pre, body, most);
     if q.ok {
-        return pace(w, q, pre, body);
+        return pace(w, q, pre, body, early, notes);
     }
     q
+}
+
+// At most `allowance` steps, by the notes and leaving more.
+fn run_noting<'a>(
+    w: &mut [u8],
+    start: Registers,
+    pre: &'a [u8],
+    body: &'a [u8],
+    early: &mut [u32],
+    notes: &mut [u32],
+    allowance: usize,
+) -> Registers
+    requires { ⌜ Good (now w) start × (start .steps + allowance ≤ 1000000) × Short (now pre) (now body) × Noting (now pre) (now body) (now early) (now notes) ⌝ }
+    ensures { λ q. ⌜ Ran (now (pre .entry)) (now (body .entry)) allowance (now (w .entry)) start (now (w .exit)) q ⌝ }
+{
+    let mut r = start;
+    let mut left = allowance;
+    while left > 0 {
+        if r.depth == 0 {
+            return r;
+        }
+        let q = onward(w, r, pre, body, early, notes, left);
+        left -= q.steps - r.steps;
+        r = afresh(q);
+    }
+    r
 }
 
 // At most `allowance` steps.
@@ -277,15 +342,7 @@ pub fn run<'a>(
     requires { ⌜ Good (now w) start × (start .steps + allowance ≤ 1000000) × Short (now pre) (now body) ⌝ }
     ensures { λ q. ⌜ Ran (now (pre .entry)) (now (body .entry)) allowance (now (w .entry)) start (now (w .exit)) q ⌝ }
 {
-    let mut r = start;
-    let mut left = allowance;
-    while left > 0 {
-        if r.depth == 0 {
-            return r;
-        }
-        let q = onward(w, r, pre, body, left);
-        left -= q.steps - r.steps;
-        r = afresh(q);
-    }
-    r
+    let mut early = [0u32; WORDS];
+    let mut notes = [0u32; WORDS];
+    run_noting(w, start, pre, body, &mut early, &mut notes, allowance)
 }

@@ -4,7 +4,7 @@
 ghost use mathlib.Core.Path.{_≡_};
 ghost use mathlib.Core.Bool.{true, false};
 ghost use Prim.Native.Nat.{ℕ, _+_, _<_, _≤_};
-ghost use lib.ListN.{length};
+ghost use lib.ListN.{length, getD};
 ghost use types.Run.{OneOf};
 ghost use mathlib.Core.List.{[], _∷_};
 ghost use Rattle.machine.specs.declared.Literal.the-variants.{Plain};
@@ -104,7 +104,7 @@ fn reckon(w: &mut [u8], r: Registers, o: ArithOp) -> usize
     }
     let x = state::values::value_of(t.first);
     let y = state::values::value_of(t.second);
-    let e = operators::arith::effect(o, x, y);
+    let e = reckoning::arith::effect(o, x, y);
     let mut q = r;
     q.height = r.height - 2;
     match e {
@@ -125,7 +125,7 @@ fn operate(w: &mut [u8], r: Registers, n: u16, clear: usize) -> usize
         180 => pop(w, r),
         181 => height_of(state::stack::repeat(w, r, 1)),
         185 => height_of(state::stack::exchange(w, r)),
-        188 => height_of(recovery::marks::tally(w, r, clear)),
+        188 => height_of(marks::tally(w, r, clear)),
         201 | 204 | 210 | 214 => reckon(w, r, two_numbers(n)),
         _ => UNDONE,
     }
@@ -135,10 +135,10 @@ fn operate(w: &mut [u8], r: Registers, n: u16, clear: usize) -> usize
 
 // A number or a name.
 fn sequence(w: &mut [u8], r: Registers, b: &[u8], at: usize) -> usize
-    requires { ⌜ (length (now b) ≤ 16777215) × Good (now w) r × (0 < r .depth) × (r .steps < 4294967295) ⌝ }
+    requires { ⌜ (length (now b) ≤ 16777215) × Good (now w) r × (0 < r .depth) × (r .steps < 4294967295) × ((at < length (now b)) × (192 ≤ getD (now b) at 0)) ⌝ }
     ensures { λ h. ⌜ Stays (now (w .entry)) r (now (w .exit)) h × ((code : Code) → Ready code (now (b .entry)) at (now (w .entry)) r → Strode code at (now (w .entry)) r (now (w .exit)) h) ⌝ }
 {
-    let d = literals::reading::due(b, at);
+    let d = literals::reading::due_sequence(b, at);
     let x = d.literal;
     match x {
         Literal::Figure(a) => {

@@ -13,9 +13,9 @@ use Rattle.tokens.specs.declared.Outcome.{Outcome}
 use Rattle.tokens.specs.declared.Outcome.the-variants.{Done, Refused}
 use Rattle.tokens.specs.declared.Refusal.the-variants.{NotWritable, NoRoom}
 use Rattle.lists.specs.declared.Measured.the-variants.{Sum, Wrong}
-use Rattle.lists.specs.Tokens.{Token}
+use Rattle.items.specs.Tokens.{Token}
 use Rattle.lists.specs.Written.{writtenOf}
-use Rattle.lists.specs.Listing.{Listed, all, wrong, listed}
+use Rattle.items.specs.Listing.{Listed, all, wrong, listed}
 use Rattle.lists.specs.Promise.{over, writeAnswer, writeLeaves, Writes}
 use Rattle.lists.specs.Inner.{capped, measuredOf, Fits, tokensIn}
 

@@ -14,7 +14,6 @@ pub mod ReadPromise
 pub mod RoundTrip
 pub mod Storing
 pub mod Sizes
-pub mod Judging
 pub mod Passes
 pub mod Answers
 pub mod Theorems

@@ -9,8 +9,8 @@ use lib.Seq.{slice}
 use mir.Syntax.{w32}
 use mir.Val.{toZ}
 use Rattle.table.specs.Words.{wordAt}
-use Rattle.lists.specs.Tokens.{Token, number, identifier, string, operator, writable, allWritable}
-use Rattle.lists.specs.Listing.{Entry, writes, bad, entry, inTable, entryOf, entryAt, Listed, all, wrong, onEntry, listedFrom, listed}
+use Rattle.items.specs.Tokens.{Token, number, identifier, string, operator, writable, allWritable}
+use Rattle.items.specs.Listing.{Entry, writes, bad, entry, inTable, entryOf, entryAt, Listed, all, wrong, onEntry, listedFrom, listed}
 use Rattle.numbers.proofs.Cond.{either, both, both-are}
 
 -- an entry's token is writable

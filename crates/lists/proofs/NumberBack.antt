@@ -18,7 +18,7 @@ use Rattle.tokens.specs.Format.{integerType, rationalType}
 use Rattle.tokens.specs.Joined.{continued}
 use Rattle.tokens.specs.Token.{tokenAt, tokenOf, judged, numberRead, integerIn, rationalIn}
 use Rattle.lists.specs.Written.{complementOf, integerBytes, bytesIn, larger, raised, isShort, sequenceBytes, wholeBytes, rationalBytes, tokenBytes}
-use Rattle.lists.specs.Tokens.{number}
+use Rattle.items.specs.Tokens.{number}
 use Rattle.numbers.proofs.Cond.{both, by-test}
 use Rattle.lists.proofs.HighBytes.{bytes-length, bytes-value}
 use Rattle.lists.proofs.SignedBack.{complement-lt, signed-back, Held, bytesIn-holds, larger-holds}

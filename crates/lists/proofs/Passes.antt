@@ -12,12 +12,13 @@ use lib.Seq.{sets}
 use borrow.Author.Tests.{lt-ltb, le-ltb, le-leb, lt-leb}
 use Rattle.tokens.specs.Format.{header}
 use Rattle.numbers.proofs.Cond.{either, split}
-use Rattle.lists.specs.declared.Item.{Item}
+use Rattle.items.specs.declared.Item.{Item}
 use Rattle.lists.specs.declared.Measured.the-variants.{Sum, Wrong}
-use Rattle.lists.specs.Tokens.{Token}
+use Rattle.items.specs.Tokens.{Token}
 use Rattle.lists.specs.Written.{tokenBytes, tokensBytes, writtenOf}
-use Rattle.lists.specs.Listing.{Entry, writes, bad, entryAt, Listed, all, wrong, onEntry, listedFrom, listed}
-use Rattle.lists.specs.Inner.{entryIs, GoodItem, Judged, Room, Put, entryTokens, entryBytes, capped, measuredOf, Fits, tokensIn}
+use Rattle.items.specs.Listing.{Entry, writes, bad, entryAt, Listed, all, wrong, onEntry, listedFrom, listed}
+use Rattle.items.specs.Judged.{entryIs, GoodItem, Judged}
+use Rattle.lists.specs.Inner.{Room, Put, entryTokens, entryBytes, capped, measuredOf, Fits, tokensIn}
 use Rattle.lists.proofs.Storing.{put-then}
 use Rattle.lists.proofs.SameTables.{list-turn}
 use Rattle.lists.proofs.TokenBack.{some-byte}

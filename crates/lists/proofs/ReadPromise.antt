@@ -10,8 +10,8 @@ use Rattle.tokens.specs.declared.Outcome.{Outcome}
 use Rattle.tokens.specs.declared.Outcome.the-variants.{Done, Refused}
 use Rattle.tokens.specs.declared.Refusal.{Refusal}
 use Rattle.tokens.specs.declared.Refusal.the-variants.{TableTooShort}
-use Rattle.lists.specs.Tokens.{Token, allWritable}
-use Rattle.lists.specs.Listing.{all, listed}
+use Rattle.items.specs.Tokens.{Token, allWritable}
+use Rattle.items.specs.Listing.{all, listed}
 use Rattle.lists.specs.Reading.{Got, got, refused, readList}
 use Rattle.lists.specs.Promise.{over, textsOf, listOf, holds, readAnswer, listLeaves, textLeaves, ReadsBack}
 use Rattle.numbers.proofs.Cond.{by-test}

@@ -12,7 +12,7 @@ use Rattle.tokens.specs.Format.{header}
 use Rattle.tokens.specs.Joined.{continued}
 use Rattle.tokens.specs.Token.{tokenAt}
 use Rattle.numbers.proofs.Cond.{both}
-use Rattle.lists.specs.Tokens.{Token, writable, allWritable}
+use Rattle.items.specs.Tokens.{Token, writable, allWritable}
 use Rattle.lists.specs.Written.{tokenBytes, tokensBytes, writtenOf}
 use Rattle.lists.specs.Reading.{got, onRead, readFrom, readList}
 use Rattle.tokens.specs.Format.{starts}

@@ -8,9 +8,9 @@ use lib.ListN.{length, take, length-append}
 use Rattle.tokens.specs.declared.Outcome.{Outcome}
 use Rattle.tokens.specs.declared.Outcome.the-variants.{Done}
 use Rattle.tokens.specs.Format.{longest, stringType, identifierType}
-use Rattle.lists.specs.Tokens.{Token, number, identifier, string, operator, allWritable}
+use Rattle.items.specs.Tokens.{Token, number, identifier, string, operator, allWritable}
 use Rattle.lists.specs.Written.{tokenBytes, tokensBytes, writtenOf}
-use Rattle.lists.specs.Listing.{all, listed}
+use Rattle.items.specs.Listing.{all, listed}
 use Rattle.lists.specs.Reading.{got, readList}
 use Rattle.lists.specs.Promise.{textOf, textsOf, holds, Writes, ReadsBack}
 use Rattle.lists.proofs.SequenceBack.{sequence-length}

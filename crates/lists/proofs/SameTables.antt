@@ -14,8 +14,8 @@ use mir.Val.{ofZ, SFits}
 use mir.Facts.{toZ-ofZ, fits-ofZ}
 use borrow.Author.Tests.{lt-ltb, le-ltb, le-leb, ltb-true}
 use Rattle.numbers.proofs.Cond.{both}
-use Rattle.lists.specs.Tokens.{Token, number, identifier, string, operator, writable, allWritable}
-use Rattle.lists.specs.Listing.{writes, entry, inTable, entryOf, entryAt, all, onEntry, listedFrom, listed}
+use Rattle.items.specs.Tokens.{Token, number, identifier, string, operator, writable, allWritable}
+use Rattle.items.specs.Listing.{writes, entry, inTable, entryOf, entryAt, all, onEntry, listedFrom, listed}
 use Rattle.lists.specs.Promise.{textOf, textsOf, wordsOf, listOf}
 use Rattle.lists.proofs.NumberLimits.{number-limits}
 use Rattle.lists.proofs.SequenceBack.{after}

@@ -1,4 +1,4 @@
--- The words of a number: its size, its short form, the fewest bytes that hold it; and the length of written tokens. Assumes nothing.
+-- The words of a number: its short form, the fewest bytes that hold it; and the length of written tokens. Assumes nothing.
 use mathlib.Core.Path.{_≡_, refl, sym, ap, _∙_}
 use mathlib.Core.Bool.{Bool, false, cond}
 use mathlib.Core.List.{List, [], _∷_, _++_}
@@ -8,38 +8,20 @@ use native.Mathlib.Omega.{arith}
 use lib.Pow.{pow-mono, pow-add, pow-pos}
 use lib.ListN.{length, length-append}
 use lib.Seq.{slice}
-use lib.IntN.{ℤ, pos, negsuc, natAbs, subℕ, _+ℤ_}
+use lib.IntN.{ℤ, pos, negsuc, subℕ, _+ℤ_}
 use lib.Signed.{mag}
 use mir.Syntax.{w32}
-use mir.Val.{toZ, sel}
+use mir.Val.{toZ}
 use borrow.Author.Tests.{lt-ltb, le-ltb, ne-eqb}
 use Rattle.numbers.proofs.Cond.{split}
 use Rattle.lists.specs.Written.{bytesOf, complementOf, integerBytes, bytesIn, larger, isShort, sequenceBytes, wholeBytes, rationalBytes, operatorBytes, tokenBytes}
-use Rattle.lists.specs.declared.Item.{Item}
-use Rattle.lists.specs.declared.Item.the-variants.{Number, Identifier, String, Operator, Bad}
-use Rattle.lists.specs.Inner.{numberIn, entryIs, GoodItem, Small, headBytes, integerSequence, entryBytes}
+use Rattle.items.specs.declared.Item.{Item}
+use Rattle.items.specs.declared.Item.the-variants.{Number, Identifier, String, Operator, Bad}
+use Rattle.items.specs.Judged.{numberIn, entryIs, GoodItem}
+use Rattle.lists.specs.Inner.{Small, headBytes, integerSequence, entryBytes}
+use Rattle.items.proofs.WordSizes.{low, high}
 use Rattle.lists.proofs.HighBytes.{bytes-length}
 use Rattle.lists.proofs.Storing.{sequence-is, head-short, head-long}
-
--- ---- a word as a signed number
-
-low : (a : ℕ) → a < 2147483648 → toZ w32 a ≡ pos a
-low a h = ap (λ (b : Bool). sel b (pos a) (negsuc (4294967296 - suc a))) (lt-ltb a 2147483648 h)
-
-high : (a : ℕ) → 2147483648 ≤ a → toZ w32 a ≡ negsuc (4294967296 - suc a)
-high a h = ap (λ (b : Bool). sel b (pos a) (negsuc (4294967296 - suc a))) (le-ltb a 2147483648 h)
-
-pub mag-low : (a : ℕ) → a < 2147483648 → a ≡ mag (toZ w32 a)
-mag-low a h = sym (ap mag (low a h))
-
-pub mag-high : (a : ℕ) → 2147483648 ≤ a → a < 4294967296 → 4294967295 - a ≡ mag (toZ w32 a)
-mag-high a h k = let e : 4294967295 - a ≡ 4294967296 - suc a = omega arith in e ∙ sym (ap mag (high a h))
-
-pub abs-low : (a : ℕ) → a < 2147483648 → a ≡ natAbs (toZ w32 a)
-abs-low a h = sym (ap natAbs (low a h))
-
-pub abs-high : (a : ℕ) → 2147483648 ≤ a → a < 4294967296 → 4294967296 - a ≡ natAbs (toZ w32 a)
-abs-high a h k = let e : 4294967296 - a ≡ suc (4294967296 - suc a) = omega arith in e ∙ sym (ap natAbs (high a h))
 
 -- ---- short numbers
 

@@ -9,9 +9,9 @@ use Rattle.tokens.specs.declared.Outcome.{Outcome}
 use Rattle.tokens.specs.declared.Outcome.the-variants.{Done, Refused}
 use Rattle.tokens.specs.declared.Refusal.{Refusal}
 use Rattle.tokens.specs.Format.{longest}
-use Rattle.lists.specs.Tokens.{Token, allWritable}
+use Rattle.items.specs.Tokens.{Token, allWritable}
 use Rattle.lists.specs.Written.{bytesOf, complementOf, bytesIn, isShort, sequenceBytes, wholeBytes, rationalBytes, operatorBytes, tokenBytes, writtenOf}
-use Rattle.lists.specs.Listing.{all, listed}
+use Rattle.items.specs.Listing.{all, listed}
 use Rattle.lists.specs.Reading.{got, readList}
 use Rattle.lists.specs.Promise.{holds, Writes, ReadsBack}
 use Rattle.lists.specs.Cases.{Case, cases}

@@ -13,7 +13,7 @@ use Rattle.tokens.specs.Format.{stringType, identifierType, longestName}
 use Rattle.tokens.specs.Text.{isUpper, isLower, isDigit, isLetter, obeys, every, isName, lowerOf, lowered}
 use Rattle.tokens.specs.Joined.{continued}
 use Rattle.tokens.specs.Token.{tokenAt, judged}
-use Rattle.lists.specs.Tokens.{Token, number, identifier, string, operator, writable}
+use Rattle.items.specs.Tokens.{Token, number, identifier, string, operator, writable}
 use Rattle.lists.specs.Written.{tokenBytes}
 use Rattle.lists.specs.Reading.{Got, onRead}
 use Rattle.tokens.specs.Joined.{dataOf}

@@ -7,7 +7,7 @@ use lib.ListN.{length, length-append}
 use borrow.Author.Tests.{le-leb}
 use Rattle.table.specs.Words.{wordAt, wordBytes}
 use Rattle.table.proofs.Stores.{word-length, word-back}
-use Rattle.lists.specs.Listing.{entryOf, entryAt}
+use Rattle.items.specs.Listing.{entryOf, entryAt}
 use Rattle.lists.specs.Promise.{fourWords}
 
 pub four-length : (k a b : ℕ) → length (fourWords k a b) ≡ 16

@@ -12,9 +12,9 @@ use Rattle.tokens.specs.declared.Outcome.the-variants.{Done, Refused}
 use Rattle.tokens.specs.declared.Refusal.{Refusal}
 use Rattle.tokens.specs.declared.Refusal.the-variants.{NoRoom}
 use Rattle.tokens.specs.Format.{longest}
-use Rattle.lists.specs.Tokens.{Token}
+use Rattle.items.specs.Tokens.{Token}
 use Rattle.lists.specs.Written.{writtenOf}
-use Rattle.lists.specs.Listing.{Listed, all, wrong, listed}
+use Rattle.items.specs.Listing.{Listed, all, wrong, listed}
 use Rattle.lists.specs.Promise.{over, roomFor, writeAnswer, writeLeaves, Writes}
 use Rattle.numbers.proofs.Cond.{both, by-test}
 

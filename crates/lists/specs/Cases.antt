@@ -3,7 +3,7 @@
 use Prim.Native.Nat.{ℕ}
 use mathlib.Core.List.{List, [], _∷_}
 use lib.IntN.{ℤ, pos, negℤ}
-use Rattle.lists.specs.Tokens.{Token, number, identifier, string, operator}
+use Rattle.items.specs.Tokens.{Token, number, identifier, string, operator}
 
 pub record Case : Type 0 where
   pub token : Token

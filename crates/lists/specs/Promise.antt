@@ -14,9 +14,9 @@ use Rattle.tokens.specs.declared.Outcome.{Outcome}
 use Rattle.tokens.specs.declared.Outcome.the-variants.{Done, Refused}
 use Rattle.tokens.specs.declared.Refusal.the-variants.{TableTooShort, NotWritable, NoRoom}
 use Rattle.tokens.specs.Format.{longest}
-use Rattle.lists.specs.Tokens.{Token, number, identifier, string, operator}
+use Rattle.items.specs.Tokens.{Token, number, identifier, string, operator}
 use Rattle.lists.specs.Written.{writtenOf}
-use Rattle.lists.specs.Listing.{Listed, all, wrong, listed}
+use Rattle.items.specs.Listing.{Listed, all, wrong, listed}
 use Rattle.lists.specs.Reading.{Got, got, refused, readList}
 
 -- a table whose first bytes are now b, the rest as found

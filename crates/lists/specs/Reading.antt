@@ -13,7 +13,7 @@ use Rattle.tokens.specs.Format.{header, starts, longest}
 use Rattle.tokens.specs.Text.{lowered}
 use Rattle.tokens.specs.Joined.{dataOf, joinedAt}
 use Rattle.tokens.specs.Token.{tokenAt}
-use Rattle.lists.specs.Tokens.{Token, number, identifier, string, operator}
+use Rattle.items.specs.Tokens.{Token, number, identifier, string, operator}
 
 -- the tokens, or the refusal met and its place
 pub data Got : Type 0 where

@@ -8,7 +8,7 @@ use lib.ListN.{length}
 use lib.IntN.{ℤ, pos, negsuc, natAbs, _+ℤ_}
 use lib.Signed.{mag, nonNeg}
 use Rattle.tokens.specs.Format.{header, bias, stringType, integerType, rationalType, identifierType}
-use Rattle.lists.specs.Tokens.{Token, number, identifier, string, operator}
+use Rattle.items.specs.Tokens.{Token, number, identifier, string, operator}
 
 -- k bytes of the value v, high byte first (ExtractByte)
 unfoldable pub bytesOf : ℕ → ℕ → List ℕ

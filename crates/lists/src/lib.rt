@@ -1,17 +1,6 @@
 // Token lists: a token table and its text table, written as one run of bytes; `back` reads it back (document 01, Tokens and What the
 // controller takes). Both calls keep their promise in specs/Promise.antt.
-mod items; // four words, judged
 pub mod writing; // the list as bytes
-
-// A token of a table, judged: one that can be written, with its words as they stand there (a numerator in two's complement) and a
-// place in the text table; or none.
-pub enum Item {
-    Number { num: u32, den: u32 },
-    Identifier { start: usize, len: usize },
-    String { start: usize, len: usize },
-    Operator { number: u16 },
-    Bad,
-}
 
 // The written length of a list, counted up to 16777216; or the index of the first token that cannot be written.
 pub enum Measured {

@@ -10,12 +10,12 @@ ghost use lib.Signed.{mag};
 ghost use mir.Syntax.{w32};
 ghost use mir.Val.{toZ};
 ghost use Rattle.lists.specs.Written.{bytesOf, bytesIn, larger, sequenceBytes, wholeBytes, rationalBytes, operatorBytes, tokenBytes, writtenOf};
-ghost use Rattle.lists.specs.Listing.{listed};
+ghost use Rattle.items.specs.Listing.{listed};
 ghost use Rattle.lists.specs.Promise.{Writes};
-ghost use Rattle.lists.specs.Inner.{numberIn, entryIs, GoodItem, Small, Room, Put, headBytes, integerSequence, entryBytes, capped, measuredOf, Fits, tokensIn};
-use crate::Item;
+ghost use Rattle.items.specs.Judged.{numberIn, entryIs, GoodItem};
+ghost use Rattle.lists.specs.Inner.{Small, Room, Put, headBytes, integerSequence, entryBytes, capped, measuredOf, Fits, tokensIn};
 use crate::Measured;
-use crate::items;
+use items::Item;
 
 // The most bytes of a sequence whose length is one byte.
 const SHORT: usize = 255;

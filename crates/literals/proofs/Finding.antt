@@ -1,16 +1,20 @@
 -- The literal at a place, arm by arm of the reader, and the numbers that must fit a word. Assumes nothing.
 use Prim.Native.Nat.{ℕ, _+_, _-_, _<_, _≤_}
 use native.Mathlib.Omega.{arith}
-use mathlib.Core.Path.{_≡_, sym, _∙_}
-use mathlib.Core.List.{List}
-use lib.ListN.{length}
+use mathlib.Core.Path.{_≡_, refl, sym, subst, _∙_}
+use mathlib.Core.List.{List, [], _∷_}
+use lib.ListN.{length, getD}
+use types.Run.{OneOf, miss}
+use denote.Enum.Declared.{tagOf}
 use Rattle.numbers.specs.declared.Number as num
 use Rattle.tokens.specs.declared.Refusal.{Refusal}
 use Rattle.tokens.specs.declared.Read.{Read}
 use Rattle.tokens.specs.declared.Read.the-variants as read
+use Rattle.tokens.specs.declared.Form.the-variants as form
 use Rattle.tokens.specs.Token.{tokenAt}
 use Rattle.tokens.proofs.Told.{Tells}
 use Rattle.tokens.proofs.Theorems.{token-tells-all}
+use Rattle.machine.proofs.Role.{the-type}
 use Rattle.machine.specs.declared.Role.{Role}
 use Rattle.machine.specs.declared.Role.the-variants as role
 use Rattle.machine.specs.declared.Went.{Went}
@@ -19,8 +23,9 @@ use Rattle.machine.specs.declared.Literal.the-variants.{Figure, Name, Text, Pla
 use Rattle.machine.specs.Limits.{mostOpen}
 use Rattle.machine.specs.Skeleton.{roleOf, solid, bodyAt}
 use Rattle.machine.specs.Literal.{found, nothingAt, holdingBy, holdingAt, operatorBy, foundBy, foundAt}
-use Rattle.machine.proofs.Inside.{token-inside, body-later}
+use Rattle.machine.proofs.Inside.{body-later}
 use Rattle.machine.proofs.Bodies.{body-long}
+use Rattle.skeleton.proofs.BodyTurns.{no-operator}
 use Rattle.literals.specs.declared.Due.{Due}
 use Rattle.literals.specs.Dues.{Is}
 
@@ -45,6 +50,16 @@ module _ (b : List ℕ) (n next : ℕ) (w : Went) (d : Due) (e : w ≡ bodyAt mo
 
 -- ---- an operator, by its role
 
+pub no-holder : (r : Role) → OneOf (0 ∷ 2 ∷ 3 ∷ []) (tagOf the-type r) → r ≡ role.Holds → ⊥
+no-holder r h e = miss (0 ∷ 2 ∷ 3 ∷ []) 1 tt (subst (λ (x : Role). OneOf (0 ∷ 2 ∷ 3 ∷ []) (tagOf the-type x)) e h)
+
+none-found : (b : List ℕ) (n next : ℕ) (r : Role) → OneOf (1 ∷ 2 ∷ 3 ∷ []) (tagOf the-type r) → (r ≡ role.Holds → ⊥) → operatorBy r b n next ≡ nothingAt b
+unfolding operatorBy
+none-found b n next role.Plain h f = absurd (miss (1 ∷ 2 ∷ 3 ∷ []) 0 tt h)
+none-found b n next role.Holds h f = absurd (f refl)
+none-found b n next role.Closes h f = refl
+none-found b n next role.Barred h f = refl
+
 module _ (b : List ℕ) (n next : ℕ) (r : Role) (d : Due) (e : r ≡ roleOf n) where
   pub as-plain : r ≡ role.Plain → Is (found b (Plain n) next) d → Is (operatorBy (roleOf n) b n next) d
   unfolding operatorBy
@@ -54,13 +69,9 @@ module _ (b : List ℕ) (n next : ℕ) (r : Role) (d : Due) (e : r ≡ roleOf n)
   unfolding operatorBy
   as-holder f k = rw (← e, f) k
 
-  pub as-close : r ≡ role.Closes → Is (nothingAt b) d → Is (operatorBy (roleOf n) b n next) d
-  unfolding operatorBy
-  as-close f k = rw (← e, f) k
-
-  pub as-barred : r ≡ role.Barred → Is (nothingAt b) d → Is (operatorBy (roleOf n) b n next) d
-  unfolding operatorBy
-  as-barred f k = rw (← e, f) k
+  -- a role that is neither of these
+  pub as-none : OneOf (1 ∷ 2 ∷ 3 ∷ []) (tagOf the-type r) → (r ≡ role.Holds → ⊥) → Is (nothingAt b) d → Is (operatorBy (roleOf n) b n next) d
+  as-none h f k = rw (← e, none-found b n next r h f) k
 
 -- ---- a token
 
@@ -69,14 +80,6 @@ module _ (b : List ℕ) (at : ℕ) (t : Read) (e : t ≡ tokenAt b at) where
   name-inside len next f =
       let h : Tells b at (read.Identifier len next) = rw (sym e ∙ f) at (token-tells-all b at) in
       omega (arith, h .longer, h .inside)
-
-  pub text-inside : (count next : ℕ) → t ≡ read.String count next → at < length b
-  text-inside count next f =
-      let h : Tells b at (read.String count next) = rw (sym e ∙ f) at (token-tells-all b at) in
-      omega (arith, h .longer, h .inside)
-
-  pub operator-inside : (n next : ℕ) → t ≡ read.Operator n next → next ≤ length b
-  operator-inside n next f = (rw (sym e ∙ f) at (token-inside b at)) .1
 
   module _ (d : Due) where
     pub is-number : (value : num.Number) (next : ℕ) → t ≡ read.Number value next → Is (found b (Figure value) next) d → Is (foundAt b at) d
@@ -91,9 +94,9 @@ module _ (b : List ℕ) (at : ℕ) (t : Read) (e : t ≡ tokenAt b at) where
     unfolding foundAt foundBy
     is-text count next start f g k = rw (← e, f, ← g) k
 
-    pub is-operator : (n next : ℕ) → t ≡ read.Operator n next → Is (operatorBy (roleOf n) b n next) d → Is (foundAt b at) d
-    unfolding foundAt foundBy
-    is-operator n next f k = rw (← e, f) k
+    -- no operator is a sequence
+    pub is-sequence : (n next : ℕ) → (at < length b) × (192 ≤ getD b at 0) → t ≡ read.Operator n next → Is (foundAt b at) d
+    is-sequence n next g f = absurd (rw (sym e ∙ f) at (no-operator b at form.Sequence refl g))
 
     pub is-comment : (next : ℕ) → t ≡ read.Comment next → Is (nothingAt b) d → Is (foundAt b at) d
     unfolding foundAt foundBy

@@ -9,6 +9,9 @@ use denote.Enum.Declared.{tagOf}
 use native.Mathlib.Omega.{arith}
 use lib.Dec.{eqb}
 use lib.ListN.{length, getD}
+use lib.IntN.{pos, _-ℤ_}
+use Rattle.numbers.specs.declared.Number as num
+use Rattle.tokens.specs.Format.{bias}
 use Rattle.tokens.specs.declared.Refusal.{Refusal}
 use Rattle.tokens.specs.declared.Read.{Read}
 use Rattle.tokens.specs.declared.Read.the-variants as read
@@ -23,7 +26,7 @@ use Rattle.machine.specs.declared.Role.the-variants as role
 use Rattle.machine.specs.declared.Literal.{Literal}
 use Rattle.machine.specs.declared.Literal.the-variants.{Figure, Name, Text, Plain, WithBody}
 use Rattle.machine.specs.Skeleton.{roleOf, solid}
-use Rattle.machine.specs.Literal.{Found, nothingAt, operatorBy, foundBy, foundAt}
+use Rattle.machine.specs.Literal.{Found, found, nothingAt, operatorBy, foundBy, foundAt}
 use Rattle.machine.specs.Step.{isUnmark0}
 use Rattle.machine.proofs.Comments.{NoComment, never, Comments, none-at, one-at, comments-are}
 use Rattle.machine.proofs.Inside.{token-inside}
@@ -65,6 +68,9 @@ unmarks-other (WithBody n s l) h = refl
 
 -- ---- the literal there
 
+pub is-as : {f g : Found} {d : Due} → f ≡ g → Is g d → Is f d
+is-as e i = rw e i
+
 -- told of a literal that is the same
 pub passes-as : {f g : Found} {d : Due} {r : Ahead} → f ≡ g → Is g d → (r .next ≡ d .next) × (r .unmarks ≡ isUnmark0 (d .literal)) → Passes f r
 passes-as {f} {g} {d} {r} e i t = rw e (record { next = t .0 ∙ i .next; unmarks = t .1 ∙ ap isUnmark0 (i .literal) })
@@ -105,6 +111,10 @@ module _ (b : List ℕ) (at : ℕ) where
     pub number-over : (raw next past : ℕ) → f ≡ form.Number raw next → past ≡ solid b next → Passes (foundAt b at) (record { next = past; unmarks = false })
     unfolding foundAt foundBy isUnmark0
     number-over raw next past e p = rw (number-shown b at f raw next e h) (record { next = p; unmarks = refl })
+
+    pub number-found : (raw next : ℕ) (v : num.Number) → f ≡ form.Number raw next → v ≡ record { num = pos raw -ℤ pos bias; den = 1 } → foundAt b at ≡ found b (Figure v) next
+    unfolding foundAt foundBy
+    number-found raw next v e g = rw (number-shown b at f raw next e h, g)
 
     pub operator-found : (n next : ℕ) → f ≡ form.Operator n next → foundAt b at ≡ operatorBy (roleOf n) b n next
     unfolding foundAt foundBy

@@ -5,13 +5,17 @@ ghost use lib.ListN.{length, getD};
 ghost use Rattle.tokens.specs.Token.{tokenAt};
 ghost use Rattle.machine.proofs.Comments.{NoComment};
 ghost use Rattle.machine.specs.Literal.{found, nothingAt, holdingAt, operatorBy, foundAt};
+ghost use Rattle.machine.specs.declared.Role.the-variants.{Holds};
 ghost use Rattle.machine.specs.Skeleton.{roleOf};
 ghost use Rattle.machine.specs.Step.{isUnmark0};
+ghost use Rattle.spans.specs.Memo.{Noted};
 ghost use Rattle.literals.specs.Dues.{Is, Passes, Tells};
 use crate::Ahead;
 use crate::Bare;
 use crate::Due;
 use machine::Literal;
+use machine::Role;
+use spans::WORDS;
 
 fn found(b: &[u8], literal: Literal, next: usize) -> Due
     ensures { λ r. ⌜ Is (found (now (b .entry)) literal next) r ⌝ }
@@ -34,11 +38,11 @@ fn nothing(b: &[u8]) -> Due
 }
 
 // The operator n with the body that is due from `next` on.
-fn holding(b: &[u8], n: u16, next: usize) -> Due
-    requires { ⌜ (length (now b) ≤ 16777215) × (next ≤ length (now b)) ⌝ }
-    ensures { λ r. ⌜ Is (holdingAt (now (b .entry)) n next) r ⌝ }
+fn holding(b: &[u8], n: u16, next: usize, memo: &mut [u32]) -> Due
+    requires { ⌜ (length (now b) ≤ 16777215) × (next ≤ length (now b)) × Noted (now b) (now memo) ⌝ }
+    ensures { λ r. ⌜ Is (holdingAt (now (b .entry)) n next) r × Noted (now (b .entry)) (now (memo .exit)) ⌝ }
 {
-    match skeleton::bodies::body(b, next, 16) {
+    match spans::span_of(b, next, memo) {
         machine::Went::Past { next: end } => {
             let start = skeleton::bodies::past_comments(b, next) + 2;
             let literal = Literal::WithBody {
@@ -55,22 +59,32 @@ fn holding(b: &[u8], n: u16, next: usize) -> Due
     }
 }
 
-// The operator n, which ends at `next`.
-fn operator(b: &[u8], n: u16, next: usize) -> Due
-    requires { ⌜ (length (now b) ≤ 16777215) × (next ≤ length (now b)) ⌝ }
+// The operator n, which ends at `next` and holds no body.
+fn bodiless(b: &[u8], role: Role, n: u16, next: usize) -> Due
+    requires { ⌜ (role ≡ Holds → ⊥) × (role ≡ roleOf n) ⌝ }
     ensures { λ r. ⌜ Is (operatorBy (roleOf n) (now (b .entry)) n next) r ⌝ }
 {
-    match skeleton::roles::role_of(n) {
-        machine::Role::Plain => found(b, Literal::Plain { number: n }, next),
-        machine::Role::Holds => holding(b, n, next),
-        machine::Role::Closes => nothing(b),
-        machine::Role::Barred => nothing(b),
+    match role {
+        Role::Plain => found(b, Literal::Plain { number: n }, next),
+        _ => nothing(b),
     }
 }
 
-// The literal at `at`.
-pub fn due(b: &[u8], at: usize) -> Due
-    requires { ⌜ length (now b) ≤ 16777215 ⌝ }
+// The operator n, which ends at `next`.
+fn operator(b: &[u8], n: u16, next: usize, memo: &mut [u32]) -> Due
+    requires { ⌜ (length (now b) ≤ 16777215) × (next ≤ length (now b)) × Noted (now b) (now memo) ⌝ }
+    ensures { λ r. ⌜ Is (operatorBy (roleOf n) (now (b .entry)) n next) r × Noted (now (b .entry)) (now (memo .exit)) ⌝ }
+{
+    let role = skeleton::roles::role_of(n);
+    match role {
+        Role::Holds => holding(b, n, next, memo),
+        _ => bodiless(b, role, n, next),
+    }
+}
+
+// A number, a name or a string at `at`, if the sequence token there is one.
+pub fn due_sequence(b: &[u8], at: usize) -> Due
+    requires { ⌜ (length (now b) ≤ 16777215) × ((at < length (now b)) × (192 ≤ getD (now b) at 0)) ⌝ }
     ensures { λ r. ⌜ Is (foundAt (now (b .entry)) at) r ⌝ }
 {
     match reader::reading::read_token(b, at) {
@@ -88,12 +102,28 @@ pub fn due(b: &[u8], at: usize) -> Due
             };
             found(b, text, next)
         }
-        tokens::Read::Operator { number, next } => operator(b, number, next),
+        tokens::Read::Operator { number: _, next: _ } => nothing(b),
         tokens::Read::Comment { next: _ } => nothing(b),
         tokens::Read::Unread {
             refusal: _,
             place: _,
         } => nothing(b),
+    }
+}
+
+// The literal at `at`. `memo` has notes on where bodies of b end, and is left with more.
+pub fn due(b: &[u8], at: usize, memo: &mut [u32]) -> Due
+    requires { ⌜ (length (now b) ≤ 16777215) × Noted (now b) (now memo) ⌝ }
+    ensures { λ r. ⌜ Is (foundAt (now (b .entry)) at) r × Noted (now (b .entry)) (now (memo .exit)) ⌝ }
+{
+    match tokens::forms::form_at(b, at) {
+        tokens::Form::Number { raw, next } => {
+            let value = reader::reading::short_value(raw);
+            found(b, Literal::Figure(value), next)
+        }
+        tokens::Form::Operator { number, next } => operator(b, number, next, memo),
+        tokens::Form::Sequence => due_sequence(b, at),
+        tokens::Form::Cut => nothing(b),
     }
 }
 
@@ -107,7 +137,7 @@ pub fn bare_operator(b: &[u8], at: usize) -> Bare
 {
     match tokens::forms::form_at(b, at) {
         tokens::Form::Operator { number, next } => match skeleton::roles::role_of(number) {
-            machine::Role::Plain => Bare {
+            Role::Plain => Bare {
                 number,
                 next: skeleton::bodies::past_comments(b, next),
             },
@@ -161,6 +191,21 @@ fn past_sequence(b: &[u8], at: usize) -> Ahead
     }
 }
 
+// The operator n, which ends at `next`; what is noted of its body is not kept.
+fn passed_operator(b: &[u8], n: u16, next: usize) -> Due
+    requires { ⌜ (length (now b) ≤ 16777215) × (next ≤ length (now b)) ⌝ }
+    ensures { λ r. ⌜ Is (operatorBy (roleOf n) (now (b .entry)) n next) r ⌝ }
+{
+    let role = skeleton::roles::role_of(n);
+    match role {
+        Role::Holds => {
+            let mut memo = [0u32; WORDS];
+            holding(b, n, next, &mut memo)
+        }
+        _ => bodiless(b, role, n, next),
+    }
+}
+
 // The literal at `at`, for skipping: most are not read but only passed over.
 pub fn ahead(b: &[u8], at: usize) -> Ahead
     requires { ⌜ length (now b) ≤ 16777215 ⌝ }
@@ -171,12 +216,12 @@ pub fn ahead(b: &[u8], at: usize) -> Ahead
             next: skeleton::bodies::past_comments(b, next),
             unmarks: false,
         },
-        tokens::Form::Operator { number, next } => told(operator(b, number, next)),
+        tokens::Form::Operator { number, next } => told(passed_operator(b, number, next)),
         tokens::Form::Sequence => {
             if skeleton::bodies::is_solid(b, at) {
                 return past_sequence(b, at);
             }
-            told(due(b, at))
+            told(due_sequence(b, at))
         }
         tokens::Form::Cut => told(nothing(b)),
     }

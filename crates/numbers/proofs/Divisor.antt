@@ -28,6 +28,11 @@ unfolding gcdOf gcdTurns
 gcd-turn a zero h = absurd (omega arith)
 gcd-turn a (suc b) h = turns (a % suc b) b (suc b) (a % suc b) (le-refl (a % suc b)) (rem-le a b b (le-refl (suc b)))
 
+-- 1 divides everything, and no more of it does
+pub gcd-one : (a : ℕ) → gcdOf a 1 ≡ 1
+unfolding gcdOf gcdTurns
+gcd-one a = refl
+
 positive : (k a b : ℕ) → b ≤ k → 0 < a + b → 0 < gcdTurns k a b
 unfolding gcdTurns
 positive zero a b hk h = omega arith

@@ -2,6 +2,7 @@
 use mathlib.Core.Path.{_≡_}
 use mathlib.Core.Bool.{Bool, xor, and-false}
 use Prim.Native.Nat.{ℕ, _/_, _<_, _≤_}
+use native.Mathlib.Nat.{div-one}
 use native.Mathlib.Omega.{arith}
 use lib.Dec.{leb}
 use lib.IntN.{natAbs}
@@ -10,6 +11,7 @@ use Rattle.numbers.specs.declared.Answer.the-variants.{Is, TooLarge, ByZ
 use Rattle.numbers.specs.Gcd.{gcdOf}
 use Rattle.numbers.specs.Whole.{signed}
 use Rattle.numbers.specs.Fraction.{most, limited, ratioOf}
+use Rattle.numbers.proofs.Divisor.{gcd-one}
 use Rattle.numbers.proofs.Signs.{abs-signed, signed-by, signed-quot}
 
 module _ (s : Bool) (n d : ℕ) where
@@ -33,3 +35,10 @@ module _ (s t : Bool) (n d : ℕ) where
   pub ratio-signed : 0 < d → limited (signed (xor s t) (n / gcdOf n d)) (d / gcdOf n d) ≡ ratioOf (signed s n) (signed t d)
   unfolding ratioOf
   ratio-signed h = rw (abs-signed s n, abs-signed t d, ne-eqb d 0 (λ e. omega arith), signed-quot, signed-by s t n d h)
+
+-- over 1 nothing is to be reduced
+over-one : (s t : Bool) (n : ℕ) → limited (signed (xor s t) n) 1 ≡ ratioOf (signed s n) (signed t 1)
+over-one s t n = let r = ratio-signed s t n 1 (omega arith) in rw (gcd-one n, div-one n) at r
+
+pub ratio-whole : (s t : Bool) (n d : ℕ) → d ≡ 1 → limited (signed (xor s t) n) 1 ≡ ratioOf (signed s n) (signed t d)
+ratio-whole s t n d h = rw h (over-one s t n)

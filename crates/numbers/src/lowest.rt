@@ -37,12 +37,15 @@ fn inside_limits(below: bool, size: u64, den: u64) -> Answer
     })
 }
 
-// n / d of two whole numbers.
+// n / d of two whole numbers. Over 1 the quotient stands in lowest terms.
 pub fn ratio_of(n: Whole, d: Whole) -> Answer
     ensures { λ r. ⌜ r ≡ ratioOf (wholeOf n) (wholeOf d) ⌝ }
 {
     if d.size == 0 {
         return Answer::ByZero;
+    }
+    if d.size == 1 {
+        return inside_limits(wholes::unlike(n.below, d.below), n.size, 1);
     }
     let g = euclid::gcd(n.size, d.size);
     inside_limits(wholes::unlike(n.below, d.below), n.size / g, d.size / g)

@@ -1,5 +1,2 @@
--- The laws, lowest first. Assumes nothing.
-pub mod Reading
+-- The laws. Assumes nothing.
 pub mod Testing
-pub mod Reckoned
-pub mod Numbers

@@ -1,11 +1,11 @@
--- Tests on what an operator read: GET's index, ERROR's codes, AND and OR, EQ. Assumes nothing.
+-- Tests on what an operator read: ERROR's codes, AND and OR, EQ. Assumes nothing.
 use mathlib.Core.Path.{_≡_, refl}
 use mathlib.Core.Bool.{true, false, not, _&&_, _||_}
 use mathlib.Core.List.{[], _∷_}
 use mathlib.Core.Logic.{inl, inr}
-use Prim.Native.Nat.{ℕ, _≤_, _<_}
-use borrow.Author.Tests.{eq-eqb, ne-eqb, le-leb, lt-leb, lt-ltb, le-ltb}
-use lib.Dec.{leb, ltb, eqb}
+use Prim.Native.Nat.{ℕ}
+use borrow.Author.Tests.{eq-eqb, ne-eqb}
+use lib.Dec.{eqb}
 use types.Run.{OneOf, miss}
 use Rattle.numbers.specs.declared.Number as num
 use Rattle.numbers.specs.Arith.{orderOf}
@@ -17,19 +17,7 @@ use Rattle.machine.specs.declared.Effect.the-variants.{Acts}
 use Rattle.machine.specs.Operand.{whether}
 use Rattle.machine.specs.Ops.Stack.{mildCode}
 use Rattle.machine.specs.Ops.Test.{isEqual, equals}
-use Rattle.operators.proofs.Reading.{KindIn}
-
--- ---- an index j between l and the end m
-
-module _ (l j m : ℕ) where
-  pub too-low : j < l → leb l j && ltb j m ≡ false
-  too-low h = rw (lt-leb l j h)
-
-  pub too-high : l ≤ j → m ≤ j → leb l j && ltb j m ≡ false
-  too-high h k = rw (le-leb l j h, le-ltb j m k)
-
-  pub in-bounds : l ≤ j → j < m → leb l j && ltb j m ≡ true
-  in-bounds h k = rw (le-leb l j h, lt-ltb j m k)
+use Rattle.operands.proofs.Reading.{KindIn}
 
 -- ---- the codes of ERROR
 

@@ -1,7 +1,7 @@
 // 2.4.5: operators that run a composed operator. DOSAVE and DOSAVEALL act as DO.
 ghost use mathlib.Core.Path.{_≡_};
 ghost use Rattle.machine.specs.Ops.Call.{called, callEffect};
-ghost use Rattle.operators.specs.Sizes.{Sized};
+ghost use Rattle.operands.specs.Sizes.{Sized};
 use machine::CallOp;
 use machine::Effect;
 use machine::Next;

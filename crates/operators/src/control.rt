@@ -3,14 +3,14 @@ ghost use mathlib.Core.Path.{_≡_};
 ghost use Prim.Native.Nat.{_+_, _<_, _≤_};
 ghost use Rattle.machine.specs.declared.BodyOp.the-variants.{If, IfElse};
 ghost use Rattle.machine.specs.Ops.Control.{bodyArity, bodyEffect};
-ghost use Rattle.operators.specs.Sizes.{Sized};
-use crate::Card;
-use crate::operands;
+ghost use Rattle.operands.specs.Sizes.{Sized};
 use machine::BodyOp;
 use machine::Effect;
 use machine::Next;
 use machine::Value;
 use machine::Work;
+use operands::Card;
+use operands::values;
 
 pub fn arity(o: BodyOp) -> usize
     ensures { λ r. ⌜ (r ≡ bodyArity o) × (r ≤ 2) ⌝ }
@@ -29,7 +29,7 @@ fn if_so(start: u32, len: u32, x: Value) -> Effect
     requires { ⌜ start + len < 4294967296 ⌝ }
     ensures { λ r. ⌜ (r ≡ bodyEffect If start len x) × Sized r ⌝ }
 {
-    match operands::cardinal(x) {
+    match values::cardinal(x) {
         Card::No => Effect::Fail,
         Card::Is(i) => {
             if i == 0 {
@@ -49,11 +49,11 @@ fn if_else(start: u32, len: u32, x: Value) -> Effect
     requires { ⌜ start + len < 4294967296 ⌝ }
     ensures { λ r. ⌜ (r ≡ bodyEffect IfElse start len x) × Sized r ⌝ }
 {
-    match operands::cardinal(x) {
+    match values::cardinal(x) {
         Card::No => Effect::Fail,
         Card::Is(i) => {
             if i == 0 {
-                return Effect::Gives(operands::natural(1));
+                return Effect::Gives(values::natural(1));
             }
             Effect::Acts(Next::Inline {
                 start,

@@ -3,14 +3,14 @@ ghost use mathlib.Core.Path.{_≡_};
 ghost use Prim.Native.Nat.{_≤_};
 ghost use Rattle.machine.specs.declared.FrameOp.the-variants.{Fget, Fset};
 ghost use Rattle.machine.specs.Ops.Frame.{frameArity, frameEffect};
-ghost use Rattle.operators.specs.Sizes.{Sized};
-use crate::Card;
-use crate::operands;
+ghost use Rattle.operands.specs.Sizes.{Sized};
 use machine::Effect;
 use machine::FrameOp;
 use machine::Next;
 use machine::Value;
 use machine::Work;
+use operands::Card;
+use operands::values;
 
 pub fn arity(o: FrameOp) -> usize
     ensures { λ r. ⌜ (r ≡ frameArity o) × (r ≤ 2) ⌝ }
@@ -25,7 +25,7 @@ pub fn arity(o: FrameOp) -> usize
 fn fget(x: Value) -> Effect
     ensures { λ r. ⌜ (r ≡ frameEffect Fget x) × Sized r ⌝ }
 {
-    match operands::cardinal(x) {
+    match values::cardinal(x) {
         Card::No => Effect::Fail,
         Card::Is(j) => {
             if j >= 50 {
@@ -40,7 +40,7 @@ fn fget(x: Value) -> Effect
 fn fset(x: Value) -> Effect
     ensures { λ r. ⌜ (r ≡ frameEffect Fset x) × Sized r ⌝ }
 {
-    match operands::cardinal(x) {
+    match values::cardinal(x) {
         Card::No => Effect::Fail,
         Card::Is(j) => {
             if j >= 50 {

@@ -1,34 +1,20 @@
-// What each operator makes of the values that it pops: a file for each section of document 000. There is no state here. What of an
-// operator's work needs the state is told to the engine, as a part that is its own.
-pub mod arith; // 2.4.9
+// What each operator makes of the values that it pops: a file for each section of document 000; 2.4.3 and 2.4.9 are in `reckoning`. There is
+// no state here. What of an operator's work needs the state is told to the engine, as a part that is its own.
 pub mod call; // 2.4.5
 pub mod control; // 2.4.5 and 2.4.7: operators that hold a body
 pub mod frame; // 2.4.4
-pub mod numbering; // an operator by its number
-pub mod operands; // how an operator reads its operands, and what it gives
 pub mod stack; // 2.4.6
 pub mod test; // 2.4.8
-pub mod vector; // 2.4.3
 
 ghost use mathlib.Core.Path.{_≡_};
 ghost use Prim.Native.Nat.{_≤_};
 ghost use Rattle.machine.specs.Operators.{arityOf, effectOf};
-ghost use Rattle.operators.specs.Sizes.{Small, Sized};
+ghost use Rattle.operands.specs.Sizes.{Small, Sized};
 use machine::Effect;
 use machine::Op;
 use machine::Value;
-
-// A value as a Cardinal.
-pub enum Card {
-    No,
-    Is(u32),
-}
-
-// A value as a number.
-pub enum Figure {
-    Other,
-    Of(numbers::Number),
-}
+use reckoning::arith;
+use reckoning::vector;
 
 // How many values an operator pops before its effect is known.
 pub fn arity_of(o: Op) -> usize

@@ -4,14 +4,14 @@ ghost use Prim.Native.Nat.{_≤_};
 ghost use Rattle.machine.specs.declared.Value.{Value};
 ghost use Rattle.machine.specs.declared.StackOp.the-variants.{Copy, Roll, Mark, Unmark, Error};
 ghost use Rattle.machine.specs.Ops.Stack.{stackArity, mildCode, stackEffect};
-ghost use Rattle.operators.specs.Sizes.{Sized};
-use crate::Card;
-use crate::operands;
+ghost use Rattle.operands.specs.Sizes.{Sized};
 use machine::Effect;
 use machine::Next;
 use machine::StackOp;
 use machine::Value;
 use machine::Work;
+use operands::Card;
+use operands::values;
 
 pub fn arity(o: StackOp) -> usize
     ensures { λ r. ⌜ (r ≡ stackArity o) × (r ≤ 2) ⌝ }
@@ -35,7 +35,7 @@ pub fn arity(o: StackOp) -> usize
 fn copy(x: Value) -> Effect
     ensures { λ r. ⌜ ((y : Value) → r ≡ stackEffect Copy x y) × Sized r ⌝ }
 {
-    match operands::cardinal(x) {
+    match values::cardinal(x) {
         Card::No => Effect::Fail,
         Card::Is(n) => Effect::Acts(Next::Works(Work::Repeat { count: n })),
     }
@@ -45,9 +45,9 @@ fn copy(x: Value) -> Effect
 fn roll(x: Value, y: Value) -> Effect
     ensures { λ r. ⌜ (r ≡ stackEffect Roll x y) × Sized r ⌝ }
 {
-    match operands::cardinal(x) {
+    match values::cardinal(x) {
         Card::No => Effect::Fail,
-        Card::Is(m) => match operands::cardinal(y) {
+        Card::Is(m) => match values::cardinal(y) {
             Card::No => Effect::Fail,
             Card::Is(n) => {
                 if m > n {
@@ -63,7 +63,7 @@ fn roll(x: Value, y: Value) -> Effect
 fn mark(x: Value) -> Effect
     ensures { λ r. ⌜ ((y : Value) → r ≡ stackEffect Mark x y) × Sized r ⌝ }
 {
-    match operands::cardinal(x) {
+    match values::cardinal(x) {
         Card::No => Effect::Fail,
         Card::Is(n) => Effect::Acts(Next::Place { count: n }),
     }
@@ -73,7 +73,7 @@ fn mark(x: Value) -> Effect
 fn unmark(x: Value) -> Effect
     ensures { λ r. ⌜ ((y : Value) → r ≡ stackEffect Unmark x y) × Sized r ⌝ }
 {
-    match operands::cardinal(x) {
+    match values::cardinal(x) {
         Card::No => Effect::Fail,
         Card::Is(n) => Effect::Acts(Next::Remove { count: n }),
     }
@@ -93,7 +93,7 @@ fn is_mild(n: u32) -> bool
 fn error(x: Value, y: Value) -> Effect
     ensures { λ r. ⌜ (r ≡ stackEffect Error x y) × Sized r ⌝ }
 {
-    match operands::cardinal(x) {
+    match values::cardinal(x) {
         Card::No => Effect::Fail,
         Card::Is(n) => match y {
             Value::Vector {

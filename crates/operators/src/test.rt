@@ -5,10 +5,7 @@ ghost use Rattle.numbers.specs.Arith.{orderOf};
 ghost use Rattle.machine.specs.declared.Value.{Value};
 ghost use Rattle.machine.specs.declared.TestOp.the-variants.{Eq, Gt, Ge, And, Or, Not};
 ghost use Rattle.machine.specs.Ops.Test.{testArity, isLess, isEqual, typeOf, testEffect};
-ghost use Rattle.operators.specs.Sizes.{Sized};
-use crate::Card;
-use crate::Figure;
-use crate::operands;
+ghost use Rattle.operands.specs.Sizes.{Sized};
 use machine::Effect;
 use machine::Next;
 use machine::TestOp;
@@ -16,6 +13,9 @@ use machine::Value;
 use machine::Work;
 use numbers::Number;
 use numbers::Order;
+use operands::Card;
+use operands::Figure;
+use operands::values;
 
 pub fn arity(o: TestOp) -> usize
     ensures { λ r. ⌜ (r ≡ testArity o) × (r ≤ 2) ⌝ }
@@ -57,8 +57,8 @@ fn eq(x: Value, y: Value) -> Effect
 {
     match x {
         Value::Number(a) => match y {
-            Value::Number(b) => operands::whether(is_equal(a, b)),
-            _ => operands::whether(false),
+            Value::Number(b) => values::whether(is_equal(a, b)),
+            _ => values::whether(false),
         },
         Value::Identifier {
             origin: _,
@@ -70,9 +70,9 @@ fn eq(x: Value, y: Value) -> Effect
                 start: _,
                 len: _,
             } => Effect::Acts(Next::Works(Work::Match(x, y))),
-            _ => operands::whether(false),
+            _ => values::whether(false),
         },
-        _ => operands::whether(false),
+        _ => values::whether(false),
     }
 }
 
@@ -80,11 +80,11 @@ fn eq(x: Value, y: Value) -> Effect
 fn gt(x: Value, y: Value) -> Effect
     ensures { λ r. ⌜ (r ≡ testEffect Gt x y) × Sized r ⌝ }
 {
-    match operands::figure(y) {
+    match values::figure(y) {
         Figure::Other => Effect::Fail,
-        Figure::Of(a) => match operands::figure(x) {
+        Figure::Of(a) => match values::figure(x) {
             Figure::Other => Effect::Fail,
-            Figure::Of(b) => operands::whether(is_less(b, a)),
+            Figure::Of(b) => values::whether(is_less(b, a)),
         },
     }
 }
@@ -93,11 +93,11 @@ fn gt(x: Value, y: Value) -> Effect
 fn ge(x: Value, y: Value) -> Effect
     ensures { λ r. ⌜ (r ≡ testEffect Ge x y) × Sized r ⌝ }
 {
-    match operands::figure(y) {
+    match values::figure(y) {
         Figure::Other => Effect::Fail,
-        Figure::Of(a) => match operands::figure(x) {
+        Figure::Of(a) => match values::figure(x) {
             Figure::Other => Effect::Fail,
-            Figure::Of(b) => operands::whether(!is_less(a, b)),
+            Figure::Of(b) => values::whether(!is_less(a, b)),
         },
     }
 }
@@ -106,15 +106,15 @@ fn ge(x: Value, y: Value) -> Effect
 fn and(x: Value, y: Value) -> Effect
     ensures { λ r. ⌜ (r ≡ testEffect And x y) × Sized r ⌝ }
 {
-    match operands::cardinal(y) {
+    match values::cardinal(y) {
         Card::No => Effect::Fail,
-        Card::Is(a) => match operands::cardinal(x) {
+        Card::Is(a) => match values::cardinal(x) {
             Card::No => Effect::Fail,
             Card::Is(b) => {
                 if a == 0 {
-                    return operands::whether(false);
+                    return values::whether(false);
                 }
-                operands::whether(b != 0)
+                values::whether(b != 0)
             }
         },
     }
@@ -124,15 +124,15 @@ fn and(x: Value, y: Value) -> Effect
 fn or(x: Value, y: Value) -> Effect
     ensures { λ r. ⌜ (r ≡ testEffect Or x y) × Sized r ⌝ }
 {
-    match operands::cardinal(y) {
+    match values::cardinal(y) {
         Card::No => Effect::Fail,
-        Card::Is(a) => match operands::cardinal(x) {
+        Card::Is(a) => match values::cardinal(x) {
             Card::No => Effect::Fail,
             Card::Is(b) => {
                 if a == 0 {
-                    return operands::whether(b != 0);
+                    return values::whether(b != 0);
                 }
-                operands::whether(true)
+                values::whether(true)
             }
         },
     }
@@ -142,9 +142,9 @@ fn or(x: Value, y: Value) -> Effect
 fn not(x: Value) -> Effect
     ensures { λ r. ⌜ ((y : Value) → r ≡ testEffect Not x y) × Sized r ⌝ }
 {
-    match operands::cardinal(x) {
+    match values::cardinal(x) {
         Card::No => Effect::Fail,
-        Card::Is(b) => operands::whether(b == 0),
+        Card::Is(b) => values::whether(b == 0),
     }
 }
 
@@ -184,6 +184,6 @@ pub fn effect(o: TestOp, x: Value, y: Value) -> Effect
         TestOp::Or => or(x, y),
         TestOp::Not => not(x),
         // <a> TYPE → <c>
-        TestOp::TypeOf => Effect::Gives(operands::natural(type_number(x))),
+        TestOp::TypeOf => Effect::Gives(values::natural(type_number(x))),
     }
 }

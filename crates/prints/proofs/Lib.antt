@@ -2,7 +2,5 @@
 pub mod Growing
 pub mod SameBytes
 pub mod Ending
-pub mod Rowing
 pub mod Walking
 pub mod Paging
-pub mod Admitting

@@ -1,19 +1,15 @@
 -- What the preamble and a page leave in the table, and a whole master: for contracts of inner functions alone. Assumes nothing.
 use Prim.Native.Nat.{ℕ, _+_, _*_, _<_, _≤_}
 use mathlib.Core.Path.{_≡_}
-use mathlib.Core.Bool.{Bool, true}
 use mathlib.Core.List.{List}
-use lib.IntN.{ℤ, pos}
+use lib.IntN.{pos}
 use lib.ListN.{length, replicate}
 use lib.Seq.{sets}
 use Rattle.table.specs.Slots.{slots}
 use Rattle.machine.specs.Step.{run, begin}
-use Rattle.tokens.specs.Format.{longest}
-use Rattle.tokens.specs.declared.Refusal.{Refusal}
 use Rattle.tokens.specs.declared.Outcome.{Outcome}
-use Rattle.tokens.specs.declared.Outcome.the-variants.{Done, Refused}
 use Rattle.machine.specs.Limits.{mostPages, scratchSize, mostCells}
-use Rattle.machine.specs.Promise.{Verdict, halted, allowed, admitted, finished, over, runAnswer, rowsLeaves, reprintAnswer, rowLeaves, sectionsLeaves}
+use Rattle.machine.specs.Promise.{finished, over, runAnswer, rowsLeaves, reprintAnswer, rowLeaves, sectionsLeaves}
 use Rattle.skeleton.specs.Spans.{Placed}
 use Rattle.machine.specs.Page.{Result, preambleEnd, pageResult, rowBytes, sectionBytes}
 use Rattle.literals.specs.Names.{both}
@@ -56,21 +52,6 @@ pub record Holds (s t : List ℕ) (page : ℕ) : Type 0 where
   pub bodies : List (List ℕ)
   pub placed : Placed s t bodies
   pub there : page < length bodies
-
--- a master that may run, with its last page's number: its bodies stand where t says, and the verdict is by them
-pub record Goes (s : List ℕ) (allowance : ℤ) (enough : Bool) (t : List ℕ) (last : ℕ) : Type 0 where
-  pub short : length s ≤ longest
-  pub tables : enough ≡ true
-  pub steps : allowed allowance ≡ true
-  pub bodies : List (List ℕ)
-  pub placed : Placed s t bodies
-  pub many : length bodies ≡ last + 1
-  pub verdict : (rest : List (List ℕ) → Verdict) → admitted s allowance enough rest ≡ rest bodies
-
--- what is judged before anything runs
-pub record Admitted (s : List ℕ) (allowance : ℤ) (enough : Bool) (t : List ℕ) (r : Outcome) : Type 0 where
-  pub halts : (w : Refusal) (place : ℕ) → r ≡ Refused w place → (rest : List (List ℕ) → Verdict) → admitted s allowance enough rest ≡ halted w place
-  pub goes : (n : ℕ) → r ≡ Done n → Goes s allowance enough t n
 
 -- every body run: the answer, the table and the rows
 pub record RanAll (allowance : ℕ) (bodies : List (List ℕ)) (w′ rows rows′ : List ℕ) (r : Outcome) : Type 0 where

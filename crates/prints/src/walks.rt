@@ -51,7 +51,7 @@ fn page_row(
     ensures { λ _. ⌜ Rowed (slice a e (now (s .entry))) (slice b f (now (s .entry))) allowance used n (now (w .exit)) (now (rows .entry)) (now (rows .exit)) ⌝ }
 {
     let q = page_of(w, s, a, e, b, f, used, allowance);
-    crate::rows::put_row(rows, n, q, used);
+    rows::put_row(rows, n, q, used);
 }
 
 // Pages 1 to `last`, one after another, and their rows; the rows before are written.

@@ -7,40 +7,22 @@ ghost use lib.ListN.{length, getD};
 ghost use lib.Seq.{slice};
 ghost use lib.IntN.{pos};
 ghost use Rattle.numbers.specs.Fraction.{ratioOf};
-ghost use Rattle.tokens.specs.declared.Rule.the-variants.{Named};
 ghost use Rattle.tokens.specs.declared.Pass.the-variants.{Over};
-ghost use Rattle.tokens.specs.Text.{isName};
-ghost use Rattle.tokens.specs.Joined.{continued};
 ghost use Rattle.tokens.specs.Token.{integerSize, rationalSize, integerIn, rationalIn, judged, tokenAt};
 ghost use Rattle.tokens.specs.Passing.{passOf, Answered};
 use crate::reading::read_token;
+use crate::single::is_continued_at;
+use crate::single::is_name;
 use tokens::Pass;
 use tokens::Piece;
 use tokens::Read;
 use tokens::Rule;
 use tokens::bits::low5;
-use tokens::sequences::is_continued;
 use tokens::sequences::piece_at;
 use tokens::text::all_obey;
-use tokens::text::is_letter;
 use tokens::values::integer_size;
-use tokens::values::name_size;
 use tokens::values::rational_size;
 use tokens::values::value_after;
-
-// An identifier: the first byte is a letter.
-fn is_name(s: &[u8], start: usize, len: usize) -> bool
-    requires { ⌜ start + len ≤ length (now s) ⌝ }
-    ensures { λ r. ⌜ r ≡ isName Named (slice start (start + len) (now (s .entry))) ⌝ }
-{
-    if !name_size(len) {
-        return false;
-    }
-    if !is_letter(s[start]) {
-        return false;
-    }
-    all_obey(Rule::Named, s, start, len)
-}
 
 // Of the integers of up to 4 bytes this value alone, -2147483648, is outside the limits of a number.
 const LEAST: u64 = 2147483648;
@@ -92,16 +74,6 @@ fn is_sound(k: u8, s: &[u8], start: usize, len: usize) -> bool
         return is_name(s, start, len);
     }
     k == 6
-}
-
-// A continued token stands at `at`.
-fn is_continued_at(s: &[u8], at: usize) -> bool
-    ensures { λ r. ⌜ r ≡ continued (getD (now (s .entry)) at 0) ⌝ }
-{
-    if s.len() <= at {
-        return false;
-    }
-    is_continued(s[at])
 }
 
 fn pass_of(token: Read) -> Pass

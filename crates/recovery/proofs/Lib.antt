@@ -1,3 +1,2 @@
--- The laws, lowest first. Assumes nothing.
+-- The laws. Assumes nothing.
 pub mod Recovering
-pub mod Marking

@@ -1,3 +1,2 @@
-// Marks in the lent table, mark recovery, the ends of bodies.
-pub mod marks; // MARK, UNMARK, COUNT
+// Mark recovery in the lent table, the ends of bodies.
 pub mod ends; // mark recovery, the end of bodies

@@ -210,9 +210,12 @@ module _ (s : List ℕ) (p : ℕ) (f : Form) where
     unfolding passing
     barred n next r e h g k = operator-literal n next r e h g ∙ rw k
 
-    pub holding : (n next : ℕ) (r : Role) (w x : Went) → f ≡ form.Operator n next → Shows s p f → r ≡ roleOf n → r ≡ role.Holds → w ≡ bodyAt m s next → w ≡ x → literalAt m s p ≡ held x
+    pub held-there : (n next : ℕ) (r : Role) → f ≡ form.Operator n next → Shows s p f → r ≡ roleOf n → r ≡ role.Holds → literalAt m s p ≡ held (bodyAt m s next)
     unfolding passing
-    holding n next r w x e h g k b d = operator-literal n next r e h g ∙ rw (k, ← b, d)
+    held-there n next r e h g k = operator-literal n next r e h g ∙ rw k
+
+    pub holding : (n next : ℕ) (r : Role) (w x : Went) → f ≡ form.Operator n next → Shows s p f → r ≡ roleOf n → r ≡ role.Holds → w ≡ bodyAt m s next → w ≡ x → literalAt m s p ≡ held x
+    holding n next r w x e h g k b d = held-there n next r e h g k ∙ ap held (sym b ∙ d)
 
     pub passed : (q x : Pass) → f ≡ form.Sequence → Shows s p f → q ≡ passOf (tokenAt s p) → q ≡ x → literalAt m s p ≡ passedBy x
     passed q x e h g k = by-pass p (bodyAt m s) (tokenAt s p) (no-operator e h) ∙ ap passedBy (sym g ∙ k)

@@ -68,7 +68,7 @@ pub fn past_comments(s: &[u8], at: usize) -> usize
     pass_comments(s, at)
 }
 
-fn not_allowed(place: usize) -> Went
+pub fn not_allowed(place: usize) -> Went
     ensures { λ r. ⌜ r ≡ Stop NotAllowed place ⌝ }
 {
     Went::Stop {
@@ -77,7 +77,7 @@ fn not_allowed(place: usize) -> Went
     }
 }
 
-fn cut_off(place: usize) -> Went
+pub fn cut_off(place: usize) -> Went
     ensures { λ r. ⌜ r ≡ Stop CutOff place ⌝ }
 {
     Went::Stop {
@@ -87,7 +87,7 @@ fn cut_off(place: usize) -> Went
 }
 
 // Past the operator n, which is due at `at`.
-fn due_here(n: u16, s: &[u8], at: usize) -> Went
+pub fn due_here(n: u16, s: &[u8], at: usize) -> Went
     ensures { λ r. ⌜ r ≡ dueBy n at (tokenAt (now (s .entry)) at) ⌝ }
 {
     match tokens::forms::form_at(s, at) {

@@ -22,7 +22,7 @@ use tokens::refusals::refused;
 const MOST_PAGES: usize = 512;
 
 // The most bodies that may be open at once.
-const MOST_OPEN: usize = 16;
+pub const MOST_OPEN: usize = 16;
 
 fn page_turn(s: &[u8], had: usize, at: usize) -> Turn
     ensures { λ r. ⌜ r ≡ pageTurn (now (s .entry)) had at ⌝ }

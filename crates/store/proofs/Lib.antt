@@ -1,4 +1,3 @@
 -- The laws, lowest first. Assumes nothing.
 pub mod Charging
 pub mod Cardinals
-pub mod Showing

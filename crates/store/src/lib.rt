@@ -1,4 +1,3 @@
-// Cells in the lent table, and a result's sections.
+// Cells in the lent table.
 pub mod cells; // vectors made and read, the frame that an operator keeps
 pub mod letters; // a string becomes a vector
-pub mod sections; // a result's sections

@@ -34,7 +34,7 @@ integer-is at d next =
     (λ h. ap (λ (v : ℕ). numberRead at next (ratioOf (signedOf (length d) v) (pos 1))) (first-eight d (omega (arith, integer-few (length d) h))))
 
 -- judging the value of two halves is judging the halves
-rational-by : (h : ℕ) (d : List ℕ) → length d ≡ h + h → Bytes d → rationalBy h (valueAfter 0 d) ≡ rationalIn h d
+pub rational-by : (h : ℕ) (d : List ℕ) → length d ≡ h + h → Bytes d → rationalBy h (valueAfter 0 d) ≡ rationalIn h d
 unfolding rationalBy
 rational-by h d l b = rw (halves h d l b .0, halves h d l b .1)
 

@@ -124,11 +124,15 @@ module _ (k n : ℕ) (d : List ℕ) (l : length d ≡ n) (at next : ℕ) where
 
 -- ---- the token
 
+-- a piece that nothing continues is all of its sequence
+pub sequence-one : (k : ℕ) (s : List ℕ) (at f n : ℕ) → pieceAt s at ≡ Data f n → continued (getD s (f + n) 0) ≡ false → sequence k at (joinedAt s at) ≡ judged k at (slice f (f + n) s) (f + n)
+unfolding sequence
+sequence-one k s at f n p h = rw (joined-data s at f n p, turn (length s) s (f + n) (slice f (f + n) s) (omega arith), h)
+
 module _ (s : List ℕ) (at : ℕ) (here : at < length s) (first : 192 ≤ getD s at 0) where
   pub sequence-is : tokenAt s at ≡ sequence (getD s at 0 % 32) at (joinedAt s at)
   unfolding tokenAt tokenOf
   sequence-is = simp (lt-ltb at (length s) here, le-ltb (getD s at 0) 128 (omega arith), le-ltb (getD s at 0) 160 (omega arith), le-ltb (getD s at 0) 192 (omega arith))
 
   pub one-piece : (f n : ℕ) → pieceAt s at ≡ Data f n → continued (getD s (f + n) 0) ≡ false → tokenAt s at ≡ judged (getD s at 0 % 32) at (slice f (f + n) s) (f + n)
-  unfolding sequence
-  one-piece f n p h = sequence-is ∙ rw (joined-data s at f n p, turn (length s) s (f + n) (slice f (f + n) s) (omega arith), h)
+  one-piece f n p h = sequence-is ∙ sequence-one (getD s at 0 % 32) s at f n p h

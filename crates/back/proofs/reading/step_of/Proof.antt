@@ -1,7 +1,7 @@
 -- `reading::step_of` meets its contract, variant by variant. Assumes nothing.
 use mathlib.Core.Path.{sym, ap, _∙_}
 use borrow.Author.Needs.{needs}
-use Rattle.back.specs.Filling.{stepOf}
+use Rattle.filling.specs.Filling.{stepOf}
 use Rattle.back.proofs.reading.step_of.Statement.{statement}
 use Rattle.back.proofs.reading.step_of.Tie as tie
 

@@ -7,10 +7,10 @@ use lib.ListN.{length}
 use borrow.Author.Needs.{needs}
 use Rattle.tokens.specs.Token.{tokenAt}
 use Rattle.tokens.proofs.Theorems.{token-says}
-use Rattle.lists.specs.Tokens.{Token}
+use Rattle.items.specs.Tokens.{Token}
 use Rattle.lists.specs.Promise.{textsOf}
-use Rattle.back.specs.Filling.{tokensIn, stepOf, added}
-use Rattle.back.proofs.Surveying.{Steps, steps, Goes, Surveyed, survey-end, survey-stop, survey-next}
+use Rattle.filling.specs.Filling.{tokensIn, stepOf, added}
+use Rattle.filling.proofs.Surveying.{Steps, steps, Goes, Surveyed, survey-end, survey-stop, survey-next}
 use Rattle.back.proofs.reading.survey_of.Statement.{statement}
 use Rattle.back.proofs.reading.survey_of.Tie as tie
 

@@ -3,7 +3,7 @@ use borrow.Author.Needs.{needs}
 use native.Mathlib.Omega.{arith}
 use mathlib.Core.Path.{refl}
 use Rattle.engine.proofs.Stepping.{by-figure}
-use Rattle.skeleton.proofs.BodyTurns.{stands-at, operator-ends}
+use Rattle.skeleton.proofs.BodyTurns.{stands-at, sequence-shown, operator-ends}
 use Rattle.literals.proofs.Passing.{plain-found}
 use mathlib.Core.List.{[]}
 use Rattle.engine.proofs.Swiftly.{number-inside, found-number, figure-flat, marked-begun, strode-none, strode, stays}
@@ -33,7 +33,7 @@ literal-spec =
     (λ c. search needs)
     (λ c. (stays (c .before .before .before .before .before .before .begin2 .ensures) _ (c .before .before .operate .ensures [] .0), λ code ready. strode ready _ _ (c .before .before .before .before .before .before .before .word2 .ensures) (c .before .before .before .before .before .before .begin2 .ensures) _ _ (λ h. plain-found _ _ _ (c .before .before .before .before .before .before .before .before .before .before .before .before .before .before .form-at .ensures) _ _ _ (c .before .before .before .before .before .before .before .before .before .before .before .before .number .given .1) (stands-at _ _ (c .before .before .before .before .before .before .before .before .before .before .is-solid2 .ensures (c .before .before .before .before .before .before .before .before .before .if2 .taken))) (c .before .before .operate .ensures code .1 h)) (c .before .before .operate .ensures code .0)))
     (λ c. search needs)
-    (λ c κs. (c .before .before .before .before .before .before .pre .0, c .before .before .before .before .before .before .pre .1, c .before .before .before .before .before .before .pre .2, c .before .before .before .before .before .before .pre .3))
+    (λ c κs. (c .before .before .before .before .before .before .pre .0, c .before .before .before .before .before .before .pre .1, c .before .before .before .before .before .before .pre .2, c .before .before .before .before .before .before .pre .3, sequence-shown _ _ _ (c .before .enum-told .given .1) (c .before .before .before .form-at .ensures)))
     (λ c. search needs)
     (λ c. (stays-none _ (omega arith), λ code ready. strode-none ready _ (omega arith)))
     (λ c. (stays-none _ (omega arith), λ code ready. strode-none ready _ (omega arith)))

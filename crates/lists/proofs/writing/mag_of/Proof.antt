@@ -1,5 +1,5 @@
 -- `writing::mag_of` meets its contract. Assumes nothing.
-use Rattle.lists.proofs.Sizes.{mag-low, mag-high}
+use Rattle.items.proofs.WordSizes.{mag-low, mag-high}
 use borrow.Author.Needs.{needs}
 use Rattle.lists.proofs.writing.mag_of.Statement.{statement}
 use Rattle.lists.proofs.writing.mag_of.Tie as tie

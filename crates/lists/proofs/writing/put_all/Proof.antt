@@ -4,7 +4,7 @@ use mathlib.Core.Path.{refl}
 use Rattle.tokens.specs.Format.{header}
 use Prim.Native.Nat.{_-_}
 use lib.ListN.{length}
-use Rattle.lists.specs.Listing.{listed}
+use Rattle.items.specs.Listing.{listed}
 use Rattle.lists.proofs.Passes.{Putting, putting-start, putting-end, putting-room, putting-on, fits-start}
 use Rattle.lists.proofs.writing.put_all.Statement.{statement}
 use Rattle.lists.proofs.writing.put_all.Tie as tie

@@ -1,7 +1,7 @@
 -- `writing::write` meets its contract: what was measured decides, proofs/Answers.antt. Assumes nothing.
 use mathlib.Core.Path.{sym, _∙_}
 use lib.ListN.{length}
-use Rattle.lists.specs.Listing.{listed}
+use Rattle.items.specs.Listing.{listed}
 use Rattle.lists.proofs.Answers.{writes-wrong, writes-long, writes-full, writes-done, fits-there}
 use borrow.Author.Needs.{needs}
 use Rattle.lists.proofs.writing.write.Statement.{statement}

@@ -1,7 +1,7 @@
 -- `reading::due` meets its contract. Assumes nothing.
+use Rattle.literals.proofs.Passing.{number-found, operator-found, cut-found, is-as}
+use Rattle.skeleton.proofs.BodyTurns.{sequence-shown, operator-ends}
 use borrow.Author.Needs.{needs}
-use Rattle.literals.proofs.Finding.{name-inside, text-inside, operator-inside, is-number, is-name, is-text, is-operator, is-comment, is-unread}
-use native.Mathlib.Omega.{arith}
 use Rattle.literals.proofs.reading.due.Statement.{statement}
 use Rattle.literals.proofs.reading.due.Tie as tie
 
@@ -12,22 +12,15 @@ due-spec =
     (λ c κs. search needs)
     (λ c. search needs)
     (λ c κs. search needs)
-    (λ c. search needs)
-    (λ c κs. omega (arith, name-inside _ _ _ (c .before .before .before .read-token .ensures) _ _ (c .before .len .given .1)))
-    (λ c κs. omega (arith, name-inside _ _ _ (c .before .before .before .before .read-token .ensures) _ _ (c .before .before .len .given .1)))
     (λ c κs. search needs)
     (λ c. search needs)
-    (λ c κs. omega (arith, text-inside _ _ _ (c .before .before .before .read-token .ensures) _ _ (c .before .next .given .1)))
-    (λ c κs. search needs)
+    (λ c κs. (c .before .before .before .before .before .before .before .pre .0, operator-ends _ _ _ _ _ (c .before .before .number .given .1) (c .before .before .before .before .form-at .ensures) .1, c .before .before .before .before .before .before .before .pre .1))
     (λ c. search needs)
-    (λ c κs. (search needs, operator-inside _ _ _ (c .before .before .before .read-token .ensures) _ _ (c .before .number .given .1)))
-    (λ c. search needs)
-    (λ c κs. search needs)
+    (λ c κs. (c .before .before .before .before .before .pre .0, sequence-shown _ _ _ (c .enum-told .given .1) (c .before .before .form-at .ensures)))
     (λ c. search needs)
     (λ c κs. search needs)
-    (λ c. search (needs, is-number))
-    (λ c. search (needs, is-name))
-    (λ c. search (needs, is-text))
-    (λ c. search (needs, is-operator))
-    (λ c. search (needs, is-comment))
-    (λ c. search (needs, is-unread)))
+    (λ c. (is-as (number-found _ _ _ (c .before .before .before .before .before .form-at .ensures) _ _ _ (c .before .before .before .raw .given .1) (c .before .short-value .ensures)) (c .found .ensures), c .before .before .before .before .before .before .before .before .pre .1))
+    (λ c. search needs)
+    (λ c. (is-as (operator-found _ _ _ (c .before .before .before .before .before .before .before .form-at .ensures) _ _ (c .before .before .before .before .before .number .given .1)) (c .before .before .operator .ensures .0), c .before .before .operator .ensures .1))
+    (λ c. search needs)
+    (λ c. (is-as (cut-found _ _ _ (c .before .before .before .form-at .ensures) (c .before .enum-told2 .given .1)) (c .nothing .ensures), c .before .before .before .before .before .before .pre .1)))

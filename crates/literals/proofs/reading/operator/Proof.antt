@@ -1,6 +1,6 @@
 -- `reading::operator` meets its contract. Assumes nothing.
 use borrow.Author.Needs.{needs}
-use Rattle.literals.proofs.Finding.{as-plain, as-holder, as-close, as-barred}
+use Rattle.literals.proofs.Finding.{no-holder, as-holder}
 use Rattle.literals.proofs.reading.operator.Statement.{statement}
 use Rattle.literals.proofs.reading.operator.Tie as tie
 
@@ -11,13 +11,7 @@ operator-spec =
     (λ c κs. search needs)
     (λ c. search needs)
     (λ c κs. search needs)
+    (λ c κs. (no-holder _ (c .match .keys2), c .before .role-of .ensures))
     (λ c. search needs)
-    (λ c κs. search needs)
-    (λ c. search needs)
-    (λ c κs. search needs)
-    (λ c. search needs)
-    (λ c κs. search needs)
-    (λ c. search (needs, as-plain))
-    (λ c. search (needs, as-holder))
-    (λ c. search (needs, as-close))
-    (λ c. search (needs, as-barred)))
+    (λ c. (as-holder _ _ _ _ _ (c .before .before .before .before .before .before .role-of .ensures) (c .before .before .before .before .enum-told .given .1) (c .before .before .holding .ensures .0), c .before .before .holding .ensures .1))
+    (λ c. search needs))

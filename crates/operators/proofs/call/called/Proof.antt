@@ -1,7 +1,7 @@
 -- `call::called` meets its contract. Assumes nothing.
 use borrow.Author.Needs.{needs}
 use Rattle.machine.specs.Ops.Call.{called}
-use Rattle.operators.proofs.Reading.{no-operator, is-operator}
+use Rattle.operands.proofs.Reading.{no-operator, is-operator}
 use Rattle.operators.proofs.call.called.Statement.{statement}
 use Rattle.operators.proofs.call.called.Tie as tie
 

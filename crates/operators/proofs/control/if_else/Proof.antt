@@ -4,7 +4,7 @@ use mathlib.Core.Path.{ap, _∙_}
 use borrow.Author.Tests.{eq-eqb, ne-eqb}
 use Rattle.machine.specs.Ops.Control.{bodyEffect}
 use Rattle.machine.specs.declared.Effect.the-variants.{Gives}
-use Rattle.operators.proofs.Reading.{no-card, is-card, when-so, when-not}
+use Rattle.operands.proofs.Reading.{no-card, is-card, when-so, when-not}
 use Rattle.machine.specs.Operand.{natural}
 use Rattle.operators.proofs.control.if_else.Statement.{statement}
 use Rattle.operators.proofs.control.if_else.Tie as tie

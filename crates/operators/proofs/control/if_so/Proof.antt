@@ -3,7 +3,7 @@ use borrow.Author.Needs.{needs}
 use mathlib.Core.Path.{_∙_}
 use borrow.Author.Tests.{eq-eqb, ne-eqb}
 use Rattle.machine.specs.Ops.Control.{bodyEffect}
-use Rattle.operators.proofs.Reading.{no-card, is-card, when-so, when-not}
+use Rattle.operands.proofs.Reading.{no-card, is-card, when-so, when-not}
 use Rattle.operators.proofs.control.if_so.Statement.{statement}
 use Rattle.operators.proofs.control.if_so.Tie as tie
 

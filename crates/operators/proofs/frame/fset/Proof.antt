@@ -3,7 +3,7 @@ use borrow.Author.Needs.{needs}
 use mathlib.Core.Path.{_∙_}
 use borrow.Author.Tests.{lt-ltb, le-ltb}
 use Rattle.machine.specs.Ops.Frame.{frameEffect}
-use Rattle.operators.proofs.Reading.{no-card, is-card, when-so, when-not}
+use Rattle.operands.proofs.Reading.{no-card, is-card, when-so, when-not}
 use Rattle.machine.specs.Operand.{onlyIf}
 use Rattle.operators.proofs.frame.fset.Statement.{statement}
 use Rattle.operators.proofs.frame.fset.Tie as tie

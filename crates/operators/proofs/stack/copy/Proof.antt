@@ -1,7 +1,7 @@
 -- `stack::copy` meets its contract. Assumes nothing.
 use borrow.Author.Needs.{needs}
 use Rattle.machine.specs.Ops.Stack.{stackEffect}
-use Rattle.operators.proofs.Reading.{no-card, is-card}
+use Rattle.operands.proofs.Reading.{no-card, is-card}
 use Rattle.operators.proofs.stack.copy.Statement.{statement}
 use Rattle.operators.proofs.stack.copy.Tie as tie
 

@@ -2,7 +2,7 @@
 use borrow.Author.Needs.{needs}
 use mathlib.Core.Path.{sym, _∙_}
 use Rattle.machine.specs.Ops.Stack.{stackEffect}
-use Rattle.operators.proofs.Reading.{no-vector, no-card, is-card, is-vector, when-so, when-not}
+use Rattle.operands.proofs.Reading.{no-vector, no-card, is-card, is-vector, when-so, when-not}
 use Rattle.machine.specs.Operand.{onlyIf}
 use Rattle.operators.proofs.stack.error.Statement.{statement}
 use Rattle.operators.proofs.stack.error.Tie as tie

@@ -1,7 +1,7 @@
 -- `stack::mark` meets its contract. Assumes nothing.
 use borrow.Author.Needs.{needs}
 use Rattle.machine.specs.Ops.Stack.{stackEffect}
-use Rattle.operators.proofs.Reading.{no-card, is-card}
+use Rattle.operands.proofs.Reading.{no-card, is-card}
 use Rattle.operators.proofs.stack.mark.Statement.{statement}
 use Rattle.operators.proofs.stack.mark.Tie as tie
 

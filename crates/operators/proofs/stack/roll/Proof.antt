@@ -3,7 +3,7 @@ use borrow.Author.Needs.{needs}
 use mathlib.Core.Path.{_∙_}
 use borrow.Author.Tests.{le-leb, lt-leb}
 use Rattle.machine.specs.Ops.Stack.{stackEffect}
-use Rattle.operators.proofs.Reading.{no-card, is-card, when-so, when-not}
+use Rattle.operands.proofs.Reading.{no-card, is-card, when-so, when-not}
 use Rattle.machine.specs.Operand.{onlyIf}
 use Rattle.operators.proofs.stack.roll.Statement.{statement}
 use Rattle.operators.proofs.stack.roll.Tie as tie

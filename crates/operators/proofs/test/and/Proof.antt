@@ -3,7 +3,7 @@ use borrow.Author.Needs.{needs}
 use mathlib.Core.Path.{_∙_}
 use Rattle.machine.specs.Ops.Test.{testEffect, joined}
 use Rattle.operators.proofs.Testing.{and-off, and-on}
-use Rattle.operators.proofs.Reading.{no-card, is-card}
+use Rattle.operands.proofs.Reading.{no-card, is-card}
 use Rattle.machine.specs.Operand.{whether}
 use Rattle.operators.proofs.test.and.Statement.{statement}
 use Rattle.operators.proofs.test.and.Tie as tie

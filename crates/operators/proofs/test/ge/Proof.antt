@@ -3,7 +3,7 @@ use borrow.Author.Needs.{needs}
 use mathlib.Core.Path.{ap, _∙_}
 use Rattle.machine.specs.Ops.Test.{testEffect, compared}
 use mathlib.Core.Bool.{Bool, not}
-use Rattle.operators.proofs.Reading.{no-figure, is-figure}
+use Rattle.operands.proofs.Reading.{no-figure, is-figure}
 use Rattle.machine.specs.Operand.{whether}
 use Rattle.operators.proofs.test.ge.Statement.{statement}
 use Rattle.operators.proofs.test.ge.Tie as tie

@@ -2,7 +2,7 @@
 use borrow.Author.Needs.{needs}
 use mathlib.Core.Path.{_∙_}
 use Rattle.machine.specs.Ops.Test.{testEffect}
-use Rattle.operators.proofs.Reading.{no-card, is-card}
+use Rattle.operands.proofs.Reading.{no-card, is-card}
 use Rattle.machine.specs.Operand.{whether}
 use Rattle.operators.proofs.test.not.Statement.{statement}
 use Rattle.operators.proofs.test.not.Tie as tie

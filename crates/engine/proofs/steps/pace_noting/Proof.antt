@@ -1,0 +1,26 @@
+-- `steps::pace_noting` meets its contract. Assumes nothing.
+use borrow.Author.Needs.{needs}
+use mathlib.Core.Path.{refl}
+use native.Mathlib.Omega.{arith}
+use Rattle.engine.proofs.Swiftly.{ready-now, pace-settles, pace-faults}
+use Rattle.engine.proofs.steps.pace_noting.Statement.{statement}
+use Rattle.engine.proofs.steps.pace_noting.Tie as tie
+
+pub pace-noting-spec : {M : Type 1} → statement M
+pace-noting-spec =
+    tie.close
+    (tie.spec
+    (λ c κs. search needs)
+    (λ c κs. search needs)
+    (λ c κs. (ready-now _ _ _ (c .before .before .before .before .running .result) _ (c .before .before .before .before .before .before .before .before .before .before .before .pre .0) (c .before .before .before .before .before .before .before .before .before .before .before .pre .1) (c .before .before .before .before .before .before .before .before .before .before .before .pre .2) (c .before .before .before .before .before .before .before .before .before .before .before .pre .3) (c .before .before .before .before .running .ensures) refl (c .size .ensures .0), c .before .before .before .before .before .before .before .before .before .before .before .pre .4, c .before .before .before .before .before .before .before .before .before .before .before .pre .5))
+    (λ c κs. search needs)
+    (λ c. search needs)
+    (λ c. search needs)
+    (λ c. search needs)
+    (λ c. (pace-settles _ _ (c .before .before .before .before .before .before .before .before .before .before .before .literal .ensures .0) (c .before .before .before .before .if1 .taken) (c .before .before .settle .ensures), c .before .before .before .before .before .before .before .before .before .before .before .literal .ensures .1))
+    (λ c. search needs)
+    (λ c κs. (record { room = c .before .before .before .before .before .before .before .before .before .literal .ensures .0 .busy .room; stack-fits = c .before .before .before .before .before .before .before .before .before .before .before .before .before .before .before .before .before .before .before .before .before .pre .0 .stack-fits; depth-fits = c .before .before .before .before .before .before .before .before .before .before .before .before .before .before .before .before .before .before .before .before .before .pre .0 .depth-fits; cells-fit = c .before .before .before .before .before .before .before .before .before .before .before .before .before .before .before .before .before .before .before .before .before .pre .0 .cells-fit; errors-fit = omega (arith, c .before .before .before .before .before .before .before .before .before .before .before .before .before .before .before .before .before .before .before .before .before .pre .0 .errors-fit) }, omega (arith, c .before .before .before .before .before .before .before .before .before .before .before .before .before .before .before .before .before .before .before .before .before .pre .0 .errors-fit)))
+    (λ c. search needs)
+    (λ c. search needs)
+    (λ c. search needs)
+    (λ c. (pace-faults _ _ (c .before .before .before .before .before .before .before .before .before .before .literal .ensures .0) (c .before .before .before .if1 .left) (c .fault .ensures), c .before .before .before .before .before .before .before .before .before .before .literal .ensures .1)))

@@ -1,0 +1,5 @@
+-- The laws, lowest first. Assumes nothing.
+pub mod Copying
+pub mod Surveying
+pub mod Placing
+pub mod Filled

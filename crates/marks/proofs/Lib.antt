@@ -1,0 +1,3 @@
+-- The laws. Assumes nothing.
+pub mod Counting
+pub mod Marking

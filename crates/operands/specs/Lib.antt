@@ -1,0 +1,3 @@
+-- The definitions that the contracts cite beside those of `machine`. Assumes nothing.
+pub mod Operands
+pub mod Sizes

@@ -1,4 +1,0 @@
--- The definitions that the contracts cite beside those of `machine`. Assumes nothing.
-pub mod Operands
-pub mod Reckoning
-pub mod Sizes
