@@ -6,7 +6,7 @@ most pages, whose listing is longer than the program's buffer; the longest maste
 import glob, json, os, subprocess, sys
 
 ROOT = os.path.join(os.path.dirname(os.path.abspath(__file__)), '..')
-PROGRAM = os.path.join(ROOT, 'target', 'bin', 'pages')
+PROGRAM = [os.path.join(ROOT, 'tools', 'x86_64'), 'run', os.path.join(ROOT, 'target', 'bin', 'pages')]
 LONGEST = 32768
 MOST_PAGES = 512
 BODY, END = bytes.fromhex('a06a a06b'), bytes.fromhex('a067')
@@ -47,7 +47,7 @@ def cases():
 if __name__ == '__main__':
     right = wrong = 0
     for name, master, want in cases():
-        ran = subprocess.run([PROGRAM], input=master, capture_output=True)
+        ran = subprocess.run(PROGRAM, input=master, capture_output=True)
         if ran.returncode == 0 and ran.stdout == want.encode():
             right += 1
         else:

@@ -1,8 +1,8 @@
-//! The same five calls in a C static library, for comparison. Which library is
-//! linked is said by RUSTFLAGS.
+//! The same five calls in a C static library, for speed. Which library is linked
+//! is said by RUSTFLAGS.
 
 use crate::engine::Answer;
-use crate::gen::{input, Calls, Input, Oracle};
+use crate::gen::Calls;
 
 extern "C" {
     fn pz_load(master: *const u8, master_len: usize) -> Answer;
@@ -117,39 +117,6 @@ impl Calls for Host {
                 text.as_mut_ptr(),
                 text.len(),
             )
-        }
-    }
-}
-
-/// Makes `count` calls on both engines, prints where they differ in an answer
-/// or in a byte of a table, and answers how many do.
-pub fn compare(seed: u64, count: u64) -> u64 {
-    let mut differing = 0;
-    for index in 0..count {
-        let mut ours = input(seed, index);
-        let mut theirs = ours.clone();
-        let answers = [ours.perform(&Oracle), theirs.perform(&Host)];
-        if answers[0] != answers[1] || ours != theirs {
-            differing += 1;
-            report(seed, index, answers, &ours, &theirs);
-        }
-    }
-    differing
-}
-
-fn report(seed: u64, index: u64, answers: [Answer; 2], ours: &Input, theirs: &Input) {
-    println!(
-        "seed {seed} index {index}: {:?}, oracle {:?}, host {:?}",
-        ours.call, answers[0], answers[1]
-    );
-    let tables = |input: &Input| [&input.given[..], &input.lent[..]].concat();
-    for (number, (a, b)) in tables(ours).iter().zip(&tables(theirs)).enumerate() {
-        if let Some(at) = a.iter().zip(b).position(|(a, b)| a != b) {
-            println!(
-                "  table {number} from byte {at}: oracle {:?}, host {:?}",
-                &a[at..a.len().min(at + 20)],
-                &b[at..b.len().min(at + 20)]
-            );
         }
     }
 }

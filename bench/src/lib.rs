@@ -4,6 +4,7 @@
 #![cfg_attr(not(feature = "host"), forbid(unsafe_code))]
 
 pub mod builder;
+pub mod compare;
 pub mod engine;
 pub mod gen;
 #[cfg(feature = "host")]

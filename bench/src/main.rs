@@ -1,6 +1,7 @@
 //! `cases FILE`, `gen NAME FILE`, and the like; see `usage`.
 
 use oracle::builder::{hex, to_hex};
+use oracle::compare::{self, Server};
 use oracle::engine::{self, Answer, ROWS, SCRATCH, SECTIONS};
 use oracle::gen::{self, Call, Calls};
 use oracle::json::Json;
@@ -20,15 +21,8 @@ fn main() -> ExitCode {
         ["host-time", call, file] => time(call, file, &oracle::host::Host),
         ["tally", seed, count] => tally(number(seed), number(count)),
         ["show", seed, index] => show(number(seed), number(index)),
-        #[cfg(feature = "host")]
-        ["compare", seed, count] => {
-            let differing = oracle::host::compare(number(seed), number(count));
-            println!("{differing} of {count} differ");
-            if differing == 0 {
-                ExitCode::SUCCESS
-            } else {
-                ExitCode::FAILURE
-            }
+        ["compare", seed, count, ref server @ ..] if !server.is_empty() => {
+            compare(number(seed), number(count), server)
         }
         _ => usage(),
     }
@@ -41,7 +35,7 @@ fn usage() -> ExitCode {
     eprintln!("bench host-time CALL FILE the same with the library (feature host)");
     eprintln!("bench tally SEED COUNT    what random inputs lead to");
     eprintln!("bench show SEED INDEX     one random input and its answer");
-    eprintln!("bench compare SEED COUNT  both engines on random inputs (feature host)");
+    eprintln!("bench compare SEED COUNT COMMAND.. both engines on random inputs (of serve.c)");
     ExitCode::FAILURE
 }
 
@@ -77,6 +71,19 @@ fn time(call: &str, file: &str, calls: &impl Calls) -> ExitCode {
         println!("steps {} errors {} cells {} page 1 outcome {}", sum(2), sum(1), sum(3), rows[4]);
     }
     ExitCode::SUCCESS
+}
+
+/// Compares both engines; a server that breaks off is a failure too.
+fn compare(seed: u64, count: u64, server: &[&str]) -> ExitCode {
+    let mut server = Server::start(server).expect("the server");
+    let differing = compare::compare(seed, count, &mut server).expect("an answer of the server");
+    println!("{differing} of {count} differ");
+    let ended = server.end().expect("the server's end");
+    if ended && differing == 0 {
+        ExitCode::SUCCESS
+    } else {
+        ExitCode::FAILURE
+    }
 }
 
 /// Counts calls by their answers, and of reprints the outcomes; the digest is
