@@ -33,7 +33,7 @@ use Rattle.state.specs.Layout.{valuesAt, stackOf, Busy, Tried}
 use Rattle.state.specs.Operations as table
 use Rattle.state.proofs.Parts.{length-stack}
 use Rattle.state.proofs.Trying.{trying, failed, tried-no, tried-yes, tried-as, fits-abs}
-use Rattle.effects.proofs.ByOrigin.{empty}
+use Rattle.origins.proofs.ByOrigin.{empty}
 
 -- ---- texts
 

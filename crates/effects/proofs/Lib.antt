@@ -1,4 +1,4 @@
 -- The laws, lowest first. Assumes nothing.
-pub mod ByOrigin
 pub mod Working
 pub mod Acting
+pub mod Executing

@@ -1,4 +1,3 @@
 -- The laws, lowest first. Assumes nothing.
-pub mod Level
 pub mod Stepping
-pub mod Swiftly
+pub mod Leading

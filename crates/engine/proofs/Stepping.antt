@@ -1,5 +1,5 @@
 -- A literal executed, a step, and a run, in the words of the table. Assumes nothing.
-use Prim.Native.Nat.{ℕ, zero, suc, _+_, _-_, _≤_, _<_}
+use Prim.Native.Nat.{ℕ, suc, _+_, _-_, _≤_, _<_}
 use native.Mathlib.Omega.{arith}
 use mathlib.Core.Path.{_≡_, refl, sym, ap, _∙_}
 use mathlib.Core.Bool.{Bool, true, false, and-false}
@@ -7,20 +7,14 @@ use mathlib.Core.List.{List, [], _∷_}
 use mathlib.Core.Option.{Option}
 use borrow.Author.Tests.{le-leb}
 use lib.ListN.{length}
-use Rattle.numbers.specs.declared.Number as num
-use Rattle.table.specs.declared.Slot.{Slot}
 use Rattle.table.specs.Slots.{slots}
-use Rattle.machine.specs.declared.Value.{Value}
-use Rattle.machine.specs.declared.Value.the-variants.{Number}
-use Rattle.machine.specs.declared.Op.{Op}
 use Rattle.machine.specs.declared.Literal.{Literal}
 use Rattle.machine.specs.declared.Literal.the-variants.{Figure, Name, Text, Plain, WithBody}
-use Rattle.machine.specs.declared.Effect.{Effect}
 use Rattle.machine.specs.State.{Entry, val, mark, Context, State, running}
 use Rattle.machine.specs.Literal.{Code, bytesOf, foundAt}
-use Rattle.machine.specs.Operators.{opOf, arityOf, effectOf, popped, performed}
+use Rattle.machine.specs.Operators.{popped, performed}
 use Rattle.machine.specs.Contexts.{above, atEnd, from, Spot, landedAt, landed, recover, skipAt, skippedIn, skipped}
-use Rattle.machine.specs.Engine.{provided, pops, push, spell, worked, does, affected}
+use Rattle.machine.specs.Engine.{provided, pops, spell, worked, does, affected}
 use Rattle.machine.specs.Step.{effectAt, execute, literalStep, ended, stepBy, dueIn, step, run}
 use Rattle.machine.proofs.Inside.{HeldIn, found-inside}
 use Rattle.literals.specs.declared.Ahead.{Ahead}
@@ -29,36 +23,15 @@ use Rattle.literals.specs.Dues.{Is, Passes}
 use Rattle.literals.specs.Names.{both}
 use Rattle.state.specs.declared.Place.{Place}
 use Rattle.state.specs.declared.Registers.{Registers}
-use Rattle.state.specs.declared.Tops.{Tops}
-use Rattle.state.specs.Layout.{valueIn, stackOf, contextsOf, abs, Busy, Done, Tried, Begun, Topmost}
-use Rattle.state.specs.Operations as table
-use Rattle.state.proofs.Parts.{contexts-top}
+use Rattle.state.specs.Layout.{stackOf, contextsOf, abs, Busy, Done, Tried, Begun}
 use Rattle.state.proofs.Cutting.{over-above}
-use Rattle.state.proofs.Trying.{trying, tried-as}
-use Rattle.state.proofs.Ending.{not-on}
-use Rattle.engine.specs.Swift.{Flat, Executes}
+use Rattle.state.proofs.Trying.{tried-as}
+use Rattle.sprints.specs.Swift.{Executes}
 use Rattle.engine.specs.Steps.{SizedLiteral, Stepped}
-use Rattle.families.proofs.Executing.{plain-effect, plain-done}
-use Rattle.engine.proofs.Level.{flat, flat-of}
-
--- ---- an operator without a body, in a row
-
-module _ {w w′ : List ℕ} {r q r′ : Registers} (code : Code) (n a : ℕ) (o : Op) (t : Tops) (g : Busy w r) (eo : o ≡ opOf n) (ea : (a ≡ arityOf o) × (a ≤ 2)) (et : Topmost (above (stackOf (slots w) (r .height))) t)
-    (x y : Value) (e : Effect) (h : a ≤ t .count) (ex : x ≡ valueIn (t .first)) (ey : y ≡ valueIn (t .second)) (ee : e ≡ effectOf o x y) (eq : q ≡ trying r (r .height - a) (r .depth) (r .used) (r .ok)) (d : Tried (affected code e) w q w′ r′) where
-  pub plain-flat : (k : ℕ) → flat e ≡ true → (r′ .ok ≡ true → k ≡ r′ .height) × (r′ .ok ≡ false → k ≡ 129) → Flat (execute code (Plain n)) w r w′ k
-  plain-flat k f i = flat-of code (Plain n) (rw (← (plain-effect code n a o t g eo ea et x y e h ex ey ee)) f) k r′ i (plain-done code n a o t g eo ea et x y e h ex ey ee eq d)
 
 -- ---- a literal, by its kind
 
 module _ {w w′ : List ℕ} {r r′ : Registers} (code : Code) (x : Literal) where
-  pub by-figure : (a : num.Number) → x ≡ Figure a → Tried (push (Number a)) w r w′ r′ → Tried (execute code x) w r w′ r′
-  unfolding execute provided popped effectAt performed affected pops
-  by-figure a e t = rw e (tried-as (rw (le-leb 0 (length (above (stackOf (slots w) (r .height)))) (omega arith), over-above (stackOf (slots w) (r .height)))) t)
-
-  pub by-name : (s l : ℕ) → x ≡ Name s l → Tried (table.utter s l) w r w′ r′ → Tried (execute code x) w r w′ r′
-  unfolding execute provided popped effectAt performed affected does worked pops table.utter
-  by-name s l e t = rw e (tried-as (rw (le-leb 0 (length (above (stackOf (slots w) (r .height)))) (omega arith), over-above (stackOf (slots w) (r .height)))) t)
-
   pub by-text : (s n : ℕ) → x ≡ Text s → n ≡ s → Tried (spell code n) w r w′ r′ → Tried (execute code x) w r w′ r′
   unfolding execute provided popped effectAt performed affected does worked pops
   by-text s n e f t = rw (e, ← f) (tried-as (rw (le-leb 0 (length (above (stackOf (slots w) (r .height)))) (omega arith), over-above (stackOf (slots w) (r .height)))) t)
@@ -151,10 +124,6 @@ still-skips {w} {w′} {q} {r′} d h = ap (λ (s : State). s .skipping) (d .doe
 
 -- ---- a run
 
-not-ended : (m : List Slot) (d : ℕ) → 0 < d → ended (contextsOf m d) ≡ false
-unfolding ended
-not-ended m d h = rw (contexts-top m d h)
-
 module _ {R : State} (pre body : List ℕ) (n : ℕ) (w : List ℕ) (r : Registers) (inv : run n (both pre body) (abs w r) ≡ R) where
   pub run-out : n ≤ 0 → abs w r ≡ R
   unfolding run
@@ -163,35 +132,3 @@ module _ {R : State} (pre body : List ℕ) (n : ℕ) (w : List ℕ) (r : Registe
   pub run-ended : 0 < n → r .depth ≡ 0 → abs w r ≡ R
   unfolding run ended contextsOf
   run-ended h e = let k : n ≡ suc (n - 1) = omega arith in rw e (rw (k, e) at inv)
-
--- ---- some steps at once
-
-run-stays : (code : Code) (n : ℕ) (s : State) → ended (s .contexts) ≡ true → run n code s ≡ s
-unfolding run
-run-stays code zero s e = refl
-run-stays code (suc n) s e = rw e
-
-last-by : (code : Code) (n : ℕ) (s : State) (b : Bool) → ended (s .contexts) ≡ b → ended (run (suc n) code s .contexts) ≡ false
-    → (ended (run n code (step code s) .contexts) ≡ false → run (suc n) code (step code s) ≡ step code (run n code (step code s))) → run (suc (suc n)) code s ≡ step code (run (suc n) code s)
-unfolding run
-last-by code n s true h e f = not-on (sym (rw h at e) ∙ h)
-last-by code n s false h e f = rw h (f (rw h at e))
-
-run-last : (code : Code) (n : ℕ) (s : State) → ended (run n code s .contexts) ≡ false → run (suc n) code s ≡ step code (run n code s)
-unfolding run
-run-last code zero s e = rw e
-run-last code (suc n) s e = last-by code n s (ended (s .contexts)) refl e (λ h. run-last code n (step code s) h)
-
--- a step after k steps
-pub run-next : (code : Code) (k : ℕ) (s : State) (w : List ℕ) (r : Registers) → run k code s ≡ abs w r → 0 < r .depth → run (suc k) code s ≡ step code (abs w r)
-run-next code k s w r inv runs = run-last code k s (rw inv (not-ended (slots w) (r .depth) runs)) ∙ ap (step code) inv
-
-both-by : (code : Code) (k m : ℕ) (s : State) (b : Bool) → ended (s .contexts) ≡ b → run (k + m) code (step code s) ≡ run m code (run k code (step code s)) → run (suc (k + m)) code s ≡ run m code (run (suc k) code s)
-unfolding run
-both-by code k m s true h f = rw h (sym (run-stays code m s h))
-both-by code k m s false h f = rw h f
-
-pub run-both : (code : Code) (k m : ℕ) (s : State) → run (k + m) code s ≡ run m code (run k code s)
-unfolding run
-run-both code zero m s = let z : 0 + m ≡ m = omega arith in rw z
-run-both code (suc k) m s = let z : suc k + m ≡ suc (k + m) = omega arith in rw z (both-by code k m s (ended (s .contexts)) refl (run-both code k m (step code s)))

@@ -1,13 +1,16 @@
--- A step and a run of the bodies pre and body on the table. Assumes nothing.
-use Prim.Native.Nat.{ℕ, _+_, _≤_, _<_}
+-- A step, several steps and a run of the bodies pre and body on the table. Assumes nothing.
+use Prim.Native.Nat.{ℕ, _+_, _-_, _≤_, _<_}
 use mathlib.Core.Path.{_≡_}
+use mathlib.Core.Bool.{true, false}
 use mathlib.Core.List.{List}
 use Rattle.machine.specs.declared.Literal.{Literal}
 use Rattle.machine.specs.declared.Literal.the-variants.{Figure, Name, Text, Plain, WithBody}
+use Rattle.machine.specs.Literal.{Code}
 use Rattle.machine.specs.Step.{step, run}
 use Rattle.literals.specs.Names.{both}
 use Rattle.state.specs.declared.Registers.{Registers}
 use Rattle.state.specs.Layout.{aside, abs, Good}
+use Rattle.sprints.specs.Swift.{Executes}
 
 -- a held body's end is a word
 abbrev pub SizedLiteral : Literal → Type 0
@@ -30,3 +33,25 @@ pub record Ran (pre body : List ℕ) (allowance : ℕ) (w : List ℕ) (r : Regis
   pub does : abs w′ r′ ≡ run allowance (both pre body) (abs w r)
   pub keeps : aside w′ ≡ aside w
   pub counted : r′ .steps ≤ r .steps + allowance
+
+-- ---- several
+
+-- some steps, at most so many; `ok`: then there is room for one more, and its literal is not passed over
+pub record Led (code : Code) (most : ℕ) (w : List ℕ) (r : Registers) (w′ : List ℕ) (r′ : Registers) : Type 0 where
+  pub good : Good w′ r′
+  pub does : run (r′ .steps - r .steps) code (abs w r) ≡ abs w′ r′
+  pub keeps : aside w′ ≡ aside w
+  pub since : r .steps ≤ r′ .steps
+  pub within : r′ .steps ≤ r .steps + most
+  pub some : r′ .ok ≡ false → r .steps < r′ .steps
+  pub more : r′ .ok ≡ true → r′ .steps < r .steps + most
+  pub runs : r′ .ok ≡ true → 0 < r′ .depth
+  pub executes : r′ .ok ≡ true → Executes code (abs w′ r′)
+
+-- some steps, at most so many
+pub record Onward (code : Code) (most : ℕ) (w : List ℕ) (r : Registers) (w′ : List ℕ) (r′ : Registers) : Type 0 where
+  pub good : Good w′ r′
+  pub does : abs w′ r′ ≡ run (r′ .steps - r .steps) code (abs w r)
+  pub keeps : aside w′ ≡ aside w
+  pub some : r .steps < r′ .steps
+  pub within : r′ .steps ≤ r .steps + most

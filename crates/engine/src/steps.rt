@@ -7,9 +7,10 @@ ghost use Rattle.machine.specs.Literal.{Code, bytesOf};
 ghost use Rattle.machine.specs.Step.{execute, run};
 ghost use Rattle.literals.specs.Names.{both};
 ghost use Rattle.state.specs.Layout.{abs, Good, Busy, Tried};
-ghost use Rattle.effects.specs.Bodies.{Short, Noting};
+ghost use Rattle.origins.specs.Bodies.{Short, Noting};
 ghost use Rattle.engine.specs.Steps.{SizedLiteral, Stepped, Ran};
-ghost use Rattle.engine.specs.Swift.{Executes, Ready, Attempted, Sprinted, Led, Onward};
+ghost use Rattle.sprints.specs.Swift.{Executes, Ready, Attempted, Sprinted};
+ghost use Rattle.engine.specs.Steps.{Led, Onward};
 use machine::Literal;
 use machine::Op;
 use machine::Value;
@@ -33,7 +34,7 @@ fn plain<'a>(w: &mut [u8], r: Registers, pre: &'a [u8], body: &'a [u8], n: u16) 
     let e = operators::effect_of(o, x, y);
     let mut q = r;
     q.height = r.height - a;
-    effects::works::affect(w, q, pre, body, e)
+    effects::affect(w, q, pre, body, e)
 }
 
 fn execute<'a>(w: &mut [u8], r: Registers, pre: &'a [u8], body: &'a [u8], x: Literal) -> Registers
@@ -43,13 +44,7 @@ fn execute<'a>(w: &mut [u8], r: Registers, pre: &'a [u8], body: &'a [u8], x: Lit
     match x {
         Literal::Figure(a) => state::stack::push_number(w, r, a),
         Literal::Name { start, len } => state::stack::push_name(w, r, start, len),
-        Literal::Text { start } => effects::works::spell(
-            w,
-            r,
-            pre,
-            body,
-            table::words::size(start),
-        ),
+        Literal::Text { start } => effects::spell(w, r, pre, body, table::words::size(start)),
         Literal::Plain { number } => plain(w, r, pre, body, number),
         Literal::WithBody { number, start, len } => families::holder(
             w,
@@ -118,7 +113,7 @@ fn run_operator<'a>(w: &mut [u8], r: Registers, pre: &'a [u8], body: &'a [u8]) -
         } => {
             let mut q = r;
             q.height = r.height - 1;
-            effects::works::call(w, q, pre, body, origin, start, len, first)
+            effects::call(w, q, pre, body, origin, start, len, first)
         }
         _ => state::stack::failed(r),
     }
@@ -159,7 +154,7 @@ fn literal<'a>(
     requires { ⌜ Ready (both (now pre) (now body)) (bytesOf (both (now pre) (now body)) o) at (now w) r × Short (now pre) (now body) × Noting (now pre) (now body) (now early) (now notes) ⌝ }
     ensures { λ q. ⌜ Attempted (both (now (pre .entry)) (now (body .entry))) (now (w .entry)) r (now (w .exit)) q × Noting (now (pre .entry)) (now (body .entry)) (now (early .exit)) (now (notes .exit)) ⌝ }
 {
-    let d = effects::origins::due_of(pre, body, early, notes, o, at);
+    let d = origins::due_of(pre, body, early, notes, o, at);
     let q = contexts::bodies::begin(w, r, table::words::word(d.next));
     let x = d.literal;
     execute(w, q, pre, body, x)
@@ -210,7 +205,7 @@ fn pace<'a>(
     ensures { λ q. ⌜ Stepped (now (pre .entry)) (now (body .entry)) (now (w .entry)) r (now (w .exit)) q × Noting (now (pre .entry)) (now (body .entry)) (now (early .exit)) (now (notes .exit)) ⌝ }
 {
     let c = contexts::bodies::running(w, r.depth);
-    let b = effects::origins::bytes_of(pre, body, c.origin);
+    let b = origins::bytes_of(pre, body, c.origin);
     let x = literals::reading::bare_operator(b, table::words::size(c.start));
     if x.number == 0 {
         return afresh(pace_noting(w, afresh(r), pre, body, early, notes));
@@ -233,8 +228,8 @@ fn stretch<'a>(w: &mut [u8], r: Registers, pre: &'a [u8], body: &'a [u8], most: 
     ensures { λ q. ⌜ Sprinted (both (now (pre .entry)) (now (body .entry))) most (now (w .entry)) r (now (w .exit)) q ⌝ }
 {
     let c = contexts::bodies::running(w, r.depth);
-    let b = effects::origins::bytes_of(pre, body, c.origin);
-    crate::swift::sprint(w, r, b, most)
+    let b = origins::bytes_of(pre, body, c.origin);
+    sprints::sprint(w, r, b, most)
 }
 
 // Literals of the running body passed over, up to UNMARK0.
@@ -248,7 +243,7 @@ fn pass<'a>(w: &mut [u8], start: Registers, pre: &'a [u8], body: &'a [u8], most:
     let mut left = most;
     while left > 0 {
         let c = contexts::bodies::running(w, depth);
-        let b = effects::origins::bytes_of(pre, body, c.origin);
+        let b = origins::bytes_of(pre, body, c.origin);
         let d = literals::reading::ahead(b, table::words::size(c.start));
         if d.unmarks {
             r.ok = true;

@@ -1,11 +1,10 @@
 // An effect done with what a family of operators mostly asks for in line: there it need not go through memory. Every other effect is left to
-// `effects::works::affect`.
+// `effects::affect`.
 ghost use Rattle.machine.specs.Engine.{affected};
 ghost use Rattle.operands.specs.Sizes.{Sized};
 ghost use Rattle.literals.specs.Names.{both};
 ghost use Rattle.state.specs.Layout.{Busy, Tried};
-ghost use Rattle.effects.specs.Bodies.{Short};
-use effects::works;
+ghost use Rattle.origins.specs.Bodies.{Short};
 use machine::Effect;
 use machine::Next;
 use machine::Work;
@@ -33,11 +32,11 @@ pub fn affect_vector<'a>(
                     lower,
                     table::words::size(count),
                 ),
-                _ => works::affect(w, r, pre, body, e),
+                _ => effects::affect(w, r, pre, body, e),
             },
-            _ => works::affect(w, r, pre, body, e),
+            _ => effects::affect(w, r, pre, body, e),
         },
-        _ => works::affect(w, r, pre, body, e),
+        _ => effects::affect(w, r, pre, body, e),
     }
 }
 
@@ -54,7 +53,7 @@ pub fn affect_number<'a>(
 {
     match e {
         Effect::Gives(a) => state::stack::push_number(w, r, a),
-        _ => works::affect(w, r, pre, body, e),
+        _ => effects::affect(w, r, pre, body, e),
     }
 }
 
@@ -72,12 +71,12 @@ pub fn affect_stack<'a>(
     match e {
         Effect::Acts(x) => match x {
             Next::Works(k) => match k {
-                Work::Nothing => works::done(r),
-                _ => works::affect(w, r, pre, body, e),
+                Work::Nothing => effects::done(r),
+                _ => effects::affect(w, r, pre, body, e),
             },
-            _ => works::affect(w, r, pre, body, e),
+            _ => effects::affect(w, r, pre, body, e),
         },
-        _ => works::affect(w, r, pre, body, e),
+        _ => effects::affect(w, r, pre, body, e),
     }
 }
 
@@ -94,13 +93,13 @@ pub fn affect_body<'a>(
 {
     match e {
         Effect::Acts(x) => match x {
-            Next::Inline { start, len, owes } => works::inline(w, r, pre, body, start, len, owes),
+            Next::Inline { start, len, owes } => effects::inline(w, r, pre, body, start, len, owes),
             Next::Works(k) => match k {
-                Work::Nothing => works::done(r),
-                _ => works::affect(w, r, pre, body, e),
+                Work::Nothing => effects::done(r),
+                _ => effects::affect(w, r, pre, body, e),
             },
-            _ => works::affect(w, r, pre, body, e),
+            _ => effects::affect(w, r, pre, body, e),
         },
-        _ => works::affect(w, r, pre, body, e),
+        _ => effects::affect(w, r, pre, body, e),
     }
 }

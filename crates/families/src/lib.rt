@@ -10,7 +10,7 @@ ghost use Rattle.machine.specs.Operators.{opOf};
 ghost use Rattle.machine.specs.Step.{execute};
 ghost use Rattle.literals.specs.Names.{both};
 ghost use Rattle.state.specs.Layout.{Busy, Tried};
-ghost use Rattle.effects.specs.Bodies.{Short};
+ghost use Rattle.origins.specs.Bodies.{Short};
 use machine::ArithOp;
 use machine::StackOp;
 use machine::TestOp;

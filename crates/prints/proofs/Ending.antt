@@ -23,7 +23,7 @@ use Rattle.state.proofs.Ending.{state-path}
 use Rattle.state.proofs.Cutting.{values-cut, values-moved}
 use Rattle.state.proofs.Framing.{frame-filled}
 use Rattle.engine.specs.Steps.{Ran}
-use Rattle.effects.proofs.ByOrigin.{empty}
+use Rattle.origins.proofs.ByOrigin.{empty}
 use Rattle.prints.specs.Ran.{Preambled, Paged}
 use Rattle.prints.proofs.Growing.{begin-grown}
 use Rattle.prints.proofs.SameBytes.{preamble-alone}

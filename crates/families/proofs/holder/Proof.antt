@@ -2,7 +2,7 @@
 use borrow.Author.Needs.{needs}
 use mathlib.Core.Path.{refl}
 use Rattle.state.proofs.Stacking.{tops-fit}
-use Rattle.families.proofs.Executing.{busy-lower, holder-few, holder-done}
+use Rattle.effects.proofs.Executing.{busy-lower, holder-few, holder-done}
 use Rattle.families.proofs.holder.Statement.{statement}
 use Rattle.families.proofs.holder.Tie as tie
 

@@ -1,6 +1,7 @@
 -- `steps::execute` meets its contract. Assumes nothing.
 use borrow.Author.Needs.{needs}
-use Rattle.engine.proofs.Stepping.{by-figure, by-name, by-text, by-plain, by-holder, sized-holder}
+use Rattle.sprints.proofs.Swiftly.{by-figure, by-name}
+use Rattle.engine.proofs.Stepping.{by-text, by-plain, by-holder, sized-holder}
 use Prim.Native.Nat.{_-_}
 use Rattle.engine.proofs.steps.execute.Statement.{statement}
 use Rattle.engine.proofs.steps.execute.Tie as tie

@@ -1,7 +1,7 @@
 -- `steps::lead` meets its contract. Assumes nothing.
 use mathlib.Core.Path.{refl}
 use Rattle.engine.proofs.Stepping.{done-same}
-use Rattle.engine.proofs.Swiftly.{led-ends, led-stops}
+use Rattle.engine.proofs.Leading.{led-ends, led-stops}
 use borrow.Author.Needs.{needs}
 use Rattle.engine.proofs.steps.lead.Statement.{statement}
 use Rattle.engine.proofs.steps.lead.Tie as tie

@@ -1,9 +1,10 @@
 -- `steps::literal` meets its contract. Assumes nothing.
 use borrow.Author.Needs.{needs}
 use mathlib.Core.Path.{refl}
-use Rattle.effects.proofs.ByOrigin.{due-fits}
+use Rattle.origins.proofs.ByOrigin.{due-fits}
 use Rattle.engine.proofs.Stepping.{sized-due}
-use Rattle.engine.proofs.Swiftly.{attempted, bytes-fit, found-due}
+use Rattle.sprints.proofs.Swiftly.{attempted, found-due}
+use Rattle.engine.proofs.Leading.{bytes-fit}
 use Rattle.engine.proofs.steps.literal.Statement.{statement}
 use Rattle.engine.proofs.steps.literal.Tie as tie
 

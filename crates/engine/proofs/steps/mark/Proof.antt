@@ -1,8 +1,8 @@
 -- `steps::mark` meets its contract. Assumes nothing.
 use mathlib.Core.Path.{refl}
 use Rattle.state.proofs.Stacking.{tops-fit}
-use Rattle.families.proofs.Executing.{busy-lower}
-use Rattle.engine.proofs.Swiftly.{mark-few, mark-made, mark-fails}
+use Rattle.effects.proofs.Executing.{busy-lower}
+use Rattle.engine.proofs.Leading.{mark-few, mark-made, mark-fails}
 use borrow.Author.Needs.{needs}
 use Rattle.engine.proofs.steps.mark.Statement.{statement}
 use Rattle.engine.proofs.steps.mark.Tie as tie

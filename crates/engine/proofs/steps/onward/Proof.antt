@@ -1,7 +1,7 @@
 -- `steps::onward` meets its contract. Assumes nothing.
 use borrow.Author.Needs.{needs}
 use native.Mathlib.Omega.{arith}
-use Rattle.engine.proofs.Swiftly.{onward-paced, onward-led}
+use Rattle.engine.proofs.Leading.{onward-paced, onward-led}
 use Rattle.engine.proofs.steps.onward.Statement.{statement}
 use Rattle.engine.proofs.steps.onward.Tie as tie
 

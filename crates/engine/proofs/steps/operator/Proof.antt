@@ -2,7 +2,7 @@
 use borrow.Author.Needs.{needs}
 use mathlib.Core.Path.{sym, _∙_}
 use Rattle.engine.proofs.Stepping.{tried-same, busy-same}
-use Rattle.engine.proofs.Swiftly.{is-unmark}
+use Rattle.sprints.proofs.Swiftly.{is-unmark}
 use Rattle.engine.proofs.steps.operator.Statement.{statement}
 use Rattle.engine.proofs.steps.operator.Tie as tie
 

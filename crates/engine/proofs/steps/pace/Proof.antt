@@ -1,9 +1,10 @@
 -- `steps::pace` meets its contract. Assumes nothing.
 use borrow.Author.Needs.{needs}
 use native.Mathlib.Omega.{arith}
-use Rattle.effects.proofs.ByOrigin.{ends-fit}
+use Rattle.origins.proofs.ByOrigin.{ends-fit}
 use Rattle.engine.proofs.Stepping.{done-same, stepped-same}
-use Rattle.engine.proofs.Swiftly.{attempted, ready-now, pace-settles, pace-faults}
+use Rattle.sprints.proofs.Swiftly.{attempted}
+use Rattle.engine.proofs.Leading.{ready-now, pace-settles, pace-faults}
 use Rattle.engine.proofs.steps.pace.Statement.{statement}
 use Rattle.engine.proofs.steps.pace.Tie as tie
 

@@ -2,7 +2,7 @@
 use borrow.Author.Needs.{needs}
 use mathlib.Core.Path.{refl}
 use native.Mathlib.Omega.{arith}
-use Rattle.engine.proofs.Swiftly.{ready-now, pace-settles, pace-faults}
+use Rattle.engine.proofs.Leading.{ready-now, pace-settles, pace-faults}
 use Rattle.engine.proofs.steps.pace_noting.Statement.{statement}
 use Rattle.engine.proofs.steps.pace_noting.Tie as tie
 

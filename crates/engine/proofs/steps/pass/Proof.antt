@@ -8,9 +8,10 @@ use Prim.Native.Nat.{_+_, _-_, _≤_}
 use Rattle.machine.specs.Step.{run}
 use Rattle.literals.specs.Names.{both}
 use Rattle.state.specs.Layout.{Good, abs, aside}
-use Rattle.effects.proofs.ByOrigin.{bytes-short, ahead-fits}
+use Rattle.origins.proofs.ByOrigin.{bytes-short, ahead-fits}
 use Rattle.engine.proofs.Stepping.{here-at, unmark-due, skip-step, still-skips, done-same}
-use Rattle.engine.proofs.Swiftly.{none-run, quiet, led-here, after-inv, after-led, led-all}
+use Rattle.sprints.proofs.Swiftly.{none-run}
+use Rattle.engine.proofs.Leading.{quiet, led-here, after-inv, after-led, led-all}
 use Rattle.engine.proofs.steps.pass.Statement.{statement}
 use Rattle.engine.proofs.steps.pass.Tie as tie
 

@@ -2,7 +2,7 @@
 use borrow.Author.Needs.{needs}
 use mathlib.Core.Path.{refl}
 use Rattle.state.proofs.Stacking.{tops-fit}
-use Rattle.families.proofs.Executing.{busy-lower, small-value, plain-few, plain-done}
+use Rattle.effects.proofs.Executing.{busy-lower, small-value, plain-few, plain-done}
 use Prim.Native.Nat.{_-_}
 use Rattle.engine.proofs.steps.plain.Statement.{statement}
 use Rattle.engine.proofs.steps.plain.Tie as tie

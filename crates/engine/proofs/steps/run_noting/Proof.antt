@@ -7,9 +7,9 @@ use lib.ListN.{length}
 use Rattle.machine.specs.Step.{run}
 use Rattle.literals.specs.Names.{both}
 use Rattle.state.specs.Layout.{abs, aside, Good}
-use Rattle.effects.specs.Bodies.{Noting}
+use Rattle.origins.specs.Bodies.{Noting}
 use Rattle.engine.proofs.Stepping.{run-out, run-ended}
-use Rattle.engine.proofs.Swiftly.{run-onward}
+use Rattle.engine.proofs.Leading.{run-onward}
 use Rattle.engine.proofs.steps.run_noting.Statement.{statement}
 use Rattle.engine.proofs.steps.run_noting.Tie as tie
 

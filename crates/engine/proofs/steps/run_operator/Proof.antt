@@ -1,5 +1,5 @@
 -- `steps::run_operator` meets its contract. Assumes nothing.
-use Rattle.engine.proofs.Swiftly.{do-few, do-made, do-fails}
+use Rattle.engine.proofs.Leading.{do-few, do-made, do-fails}
 use Rattle.state.proofs.Stacking.{tops-fit}
 use mathlib.Core.Path.{refl}
 use borrow.Author.Needs.{needs}

@@ -1,5 +1,5 @@
 -- `steps::stretch` meets its contract. Assumes nothing.
-use Rattle.effects.proofs.ByOrigin.{bytes-short}
+use Rattle.origins.proofs.ByOrigin.{bytes-short}
 use borrow.Author.Needs.{needs}
 use Rattle.engine.proofs.steps.stretch.Statement.{statement}
 use Rattle.engine.proofs.steps.stretch.Tie as tie

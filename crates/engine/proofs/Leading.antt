@@ -1,0 +1,238 @@
+-- Steps of a run. In order: DO and MARK; a step; some steps, and a run of them. Assumes nothing.
+use Prim.Native.Nat.{ℕ, suc, _+_, _-_, _≤_, _<_}
+use native.Mathlib.Omega.{arith}
+use mathlib.Core.Path.{_≡_, refl, sym, _∙_}
+use mathlib.Core.Bool.{Bool, true, false}
+use mathlib.Core.List.{List, [], _∷_}
+use mathlib.Core.Option.{some}
+use types.Run.{OneOf}
+use denote.Enum.Declared.{tagOf}
+use borrow.Author.Tests.{ltb-true, ltb-false}
+use lib.Dec.{ltb}
+use lib.ListN.{length}
+use Rattle.table.specs.Slots.{slots}
+use Rattle.machine.specs.declared.Value.{Value}
+use Rattle.machine.specs.declared.Value.the-variants.{Operator}
+use Rattle.machine.specs.declared.Literal.the-variants.{Plain}
+use Rattle.machine.specs.declared.Effect.the-variants.{Fail, Acts}
+use Rattle.machine.specs.declared.Next.the-variants.{Call}
+use Rattle.machine.specs.declared.Next.the-variants as part
+use Rattle.machine.specs.declared.Op.the-variants.{Calls, OnStack}
+use Rattle.machine.specs.declared.CallOp.the-variants.{Do}
+use Rattle.machine.specs.declared.StackOp.the-variants.{Mark}
+use Rattle.machine.specs.State.{State, running}
+use Rattle.machine.specs.Literal.{Code, bytesOf}
+use Rattle.machine.specs.Operators.{arityOf, effectOf}
+use Rattle.machine.specs.Operand.{cardinal?, asOperator}
+use Rattle.machine.specs.Ops.Call.{called, callEffect}
+use Rattle.machine.specs.Ops.Stack.{stackArity, stackEffect}
+use Rattle.machine.specs.Contexts.{above, fault, settle}
+use Rattle.machine.specs.Engine.{place, call, does}
+use Rattle.machine.specs.Step.{execute, run}
+use Rattle.operands.specs.declared.Card.{Card}
+use Rattle.operands.specs.declared.Card.the-variants.{No, Is}
+use Rattle.operands.specs.Operands.{cardOf}
+use Rattle.operands.proofs.Reading.{no-operator, no-card, is-card}
+use Rattle.machine.proofs.Value.{the-type}
+use Rattle.literals.specs.Names.{both}
+use Rattle.state.specs.declared.Place.{Place}
+use Rattle.state.specs.declared.Registers.{Registers}
+use Rattle.state.specs.declared.Tops.{Tops}
+use Rattle.state.specs.Layout.{valueIn, stackOf, contextsOf, aside, abs, Good, Busy, Done, Tried, Topmost}
+use Rattle.state.proofs.Trying.{trying, failed}
+use Rattle.state.proofs.Ending.{not-on}
+use Rattle.origins.specs.Bodies.{Short}
+use Rattle.sprints.specs.Swift.{origin, stepped, Executes, Ready, Attempted, Sprinted}
+use Rattle.engine.specs.Steps.{Stepped, Led, Onward}
+use Rattle.origins.proofs.ByOrigin.{bytes-short}
+use Rattle.effects.proofs.Acting.{is-acts, by-call, by-place}
+use Rattle.effects.proofs.Executing.{plain-few, plain-done, plain-fails}
+use Rattle.sprints.proofs.Swiftly.{by-number, run-next, run-both, good-as}
+
+pub bytes-fit : (pre body b : List ℕ) {at : ℕ} {w : List ℕ} {r : Registers} → Ready (both pre body) b at w r → Short pre body → length b ≤ 16777215
+bytes-fit pre body b {at} {w} {r} ready short = rw (ready .bytes) (bytes-short pre body (running (contextsOf (slots w) (r .depth)) .origin) short)
+
+-- ---- DO
+
+do-one : (1 ≡ arityOf (Calls Do)) × (1 ≤ 2)
+unfolding arityOf
+do-one = (refl, omega arith)
+
+calls-nothing : (x y : Value) → OneOf (0 ∷ 1 ∷ 2 ∷ []) (tagOf the-type x) → Fail ≡ effectOf (Calls Do) x y
+unfolding effectOf callEffect called
+calls-nothing x y h = no-operator x _ h
+
+do-call : (o s l f : ℕ) (x y : Value) → x ≡ Operator o s l f → Acts (Call o s l f) ≡ effectOf (Calls Do) x y
+unfolding effectOf callEffect called asOperator
+do-call o s l f x y e = rw e
+
+module _ {w : List ℕ} {r : Registers} (code : Code) (t : Tops) (g : Busy w r) (et : Topmost (above (stackOf (slots w) (r .height))) t) where
+  pub do-few : {r′ : Registers} → t .count < 1 → r′ ≡ failed r → Tried (execute code (Plain 231)) w r w r′
+  do-few {r′} h q = plain-few code 231 1 (Calls Do) t g (by-number .6) do-one et h q
+
+  module _ (h : 1 ≤ t .count) (x : Value) (ex : x ≡ valueIn (t .first)) where
+    pub do-made : {w′ : List ℕ} {q r′ : Registers} (o s l f : ℕ) → x ≡ Operator o s l f → q ≡ trying r (r .height - 1) (r .depth) (r .used) (r .ok) → Tried (call code o s l f) w q w′ r′ → Tried (execute code (Plain 231)) w r w′ r′
+    do-made {w′} {q} {r′} o s l f e eq d =
+        plain-done code 231 1 (Calls Do) t g (by-number .6) do-one et x (valueIn (t .second)) (Acts (Call o s l f)) h ex refl (do-call o s l f x (valueIn (t .second)) e) eq (is-acts code (Acts (Call o s l f)) (Call o s l f) refl (by-call code (Call o s l f) o s l f refl d))
+
+    pub do-fails : {r′ : Registers} → OneOf (0 ∷ 1 ∷ 2 ∷ []) (tagOf the-type x) → r′ ≡ failed r → Tried (execute code (Plain 231)) w r w r′
+    do-fails {r′} bad q =
+        plain-fails code 231 1 (Calls Do) t g (by-number .6) do-one et x (valueIn (t .second)) h ex refl (calls-nothing x (valueIn (t .second)) bad) q
+
+-- ---- MARK
+
+mark-one : (1 ≡ arityOf (OnStack Mark)) × (1 ≤ 2)
+unfolding arityOf stackArity
+mark-one = (refl, omega arith)
+
+module _ (x y : Value) (c : Card) (ec : cardOf c ≡ cardinal? x) where
+  mark-places : (n : ℕ) → c ≡ Is n → Acts (part.Place n) ≡ effectOf (OnStack Mark) x y
+  unfolding effectOf stackEffect
+  mark-places n e = is-card x (λ m. Acts (part.Place m)) ec e
+
+  mark-none : c ≡ No → Fail ≡ effectOf (OnStack Mark) x y
+  unfolding effectOf stackEffect
+  mark-none e = no-card x (λ m. Acts (part.Place m)) ec e
+
+module _ {w : List ℕ} {r : Registers} (code : Code) (t : Tops) (g : Busy w r) (et : Topmost (above (stackOf (slots w) (r .height))) t) where
+  pub mark-few : {r′ : Registers} → t .count < 1 → r′ ≡ failed r → Tried (execute code (Plain 186)) w r w r′
+  mark-few {r′} h q = plain-few code 186 1 (OnStack Mark) t g (by-number .11) mark-one et h q
+
+  module _ (h : 1 ≤ t .count) (x : Value) (ex : x ≡ valueIn (t .first)) (c : Card) (ec : cardOf c ≡ cardinal? x) where
+    pub mark-made : {w′ : List ℕ} {q r′ : Registers} (n k : ℕ) → c ≡ Is n → k ≡ n → q ≡ trying r (r .height - 1) (r .depth) (r .used) (r .ok) → Tried (place k) w q w′ r′ → Tried (execute code (Plain 186)) w r w′ r′
+    mark-made {w′} {q} {r′} n k e ek eq d =
+        plain-done code 186 1 (OnStack Mark) t g (by-number .11) mark-one et x (valueIn (t .second)) (Acts (part.Place n)) h ex refl (mark-places x (valueIn (t .second)) c ec n e) eq (is-acts code (Acts (part.Place n)) (part.Place n) refl (by-place code (part.Place n) n k refl ek d))
+
+    pub mark-fails : {r′ : Registers} → c ≡ No → r′ ≡ failed r → Tried (execute code (Plain 186)) w r w r′
+    mark-fails {r′} e q = plain-fails code 186 1 (OnStack Mark) t g (by-number .11) mark-one et x (valueIn (t .second)) h ex refl (mark-none x (valueIn (t .second)) c ec e) q
+
+-- ---- a step
+
+-- so it is with the bytes of the running body
+pub ready-now : {w : List ℕ} {r : Registers} (pre body b : List ℕ) (c : Place) (at : ℕ) → Good w r → 0 < r .depth → Executes (both pre body) (abs w r) → r .steps < 4294967295
+    → (c .origin ≡ running (contextsOf (slots w) (r .depth)) .origin) × (c .start ≡ running (contextsOf (slots w) (r .depth)) .at) → b ≡ bytesOf (both pre body) (c .origin) → at ≡ c .start → Ready (both pre body) b at w r
+ready-now pre body b c at g runs x few here eb ea =
+    record { good = g; runs = runs; executes = x; few = few; bytes = rw (← (here .0)) eb; place = ea ∙ here .1 }
+
+module _ {w w₁ : List ℕ} {r p : Registers} (pre body : List ℕ) (t : Attempted (both pre body) w r w₁ p) where
+  pub pace-settles : {w′ : List ℕ} {r′ : Registers} → p .ok ≡ true → Done settle w₁ p w′ r′ → Stepped pre body w r w′ r′
+  pace-settles o d = record { good = d .good; does = d .does ∙ t .does o; keeps = d .keeps ∙ t .keeps; counted = d .counted ∙ t .counted }
+
+  pub pace-faults : {w′ : List ℕ} {r′ : Registers} → p .ok ≡ false → Done fault w₁ (stepped r (r .height)) w′ r′ → Stepped pre body w r w′ r′
+  pace-faults o d = record { good = d .good; does = d .does ∙ t .fails o; keeps = d .keeps ∙ t .keeps; counted = d .counted }
+
+-- ---- a run, some steps at a time
+
+module _ {code : Code} {w w₁ : List ℕ} {r q : Registers} (most : ℕ) (t : Sprinted code most w r w₁ q) where
+  -- a row that has ended its body
+  pub led-ends : {w′ : List ℕ} (r′ p : Registers) → q .ok ≡ true → Done settle w₁ q w′ p → r′ ≡ record { height = p .height; depth = p .depth; used = p .used; steps = p .steps; errors = p .errors; skipping = p .skipping; ok = false } → Led code most w r w′ r′
+  led-ends {w′} r′ p o d e =
+      rw e
+      (record {
+        good = good-as _ (d .good);
+        does = (rw (d .counted) (t .ends o)) ∙ sym (d .does);
+        keeps = d .keeps ∙ t .keeps;
+        since = omega (arith, d .counted, t .since);
+        within = omega (arith, d .counted, t .within);
+        some = λ _. omega (arith, d .counted, t .some o);
+        more = λ h. not-on h;
+        runs = λ h. not-on h;
+        executes = λ h. not-on h;
+      })
+
+  -- one that has not
+  pub led-stops : (r′ : Registers) (b : Bool) → q .ok ≡ false → 0 < most → b ≡ ltb (q .steps) (r .steps + most) → r′ ≡ record { height = q .height; depth = q .depth; used = q .used; steps = q .steps; errors = q .errors; skipping = q .skipping; ok = b } → Led code most w r w₁ r′
+  led-stops r′ b o m eb e =
+      rw e
+      (record {
+        good = good-as _ (t .good);
+        does = t .does o;
+        keeps = t .keeps;
+        since = t .since;
+        within = t .within;
+        some = λ h. let l = ltb-false (q .steps) (r .steps + most) (sym eb ∙ h) in omega (arith, t .within);
+        more = λ h. ltb-true (q .steps) (r .steps + most) (sym eb ∙ h);
+        runs = λ h. t .runs;
+        executes = λ h. rw (t .on);
+      })
+
+-- the step is the same whatever `ok` says
+pub quiet : {pre body w w′ : List ℕ} {r r′ : Registers} → Stepped pre body w r w′ r′ → Stepped pre body w r w′ (record { height = r′ .height; depth = r′ .depth; used = r′ .used; steps = r′ .steps; errors = r′ .errors; skipping = r′ .skipping; ok = false })
+quiet d = record { good = good-as _ (d .good); does = d .does; keeps = d .keeps; counted = d .counted }
+
+-- a literal passed over after others
+module _ (pre body w₀ w : List ℕ) (r₀ r : Registers) (most left : ℕ) (runs : 0 < r .depth) (few : left ≤ most) (sum : r .steps + left ≡ r₀ .steps + most) (same : aside w ≡ aside w₀)
+    (inv : run (most - left) (both pre body) (abs w₀ r₀) ≡ abs w r) where
+  -- UNMARK0 is due
+  pub led-here : Good w r → 0 < left → Executes (both pre body) (abs w r) → Led (both pre body) most w₀ r₀ w (record { height = r .height; depth = r .depth; used = r .used; steps = r .steps; errors = r .errors; skipping = r .skipping; ok = true })
+  led-here g h x =
+      let z : r .steps - r₀ .steps ≡ most - left = omega arith in
+      record {
+        good = good-as _ g;
+        does = rw z inv;
+        keeps = same;
+        since = omega arith;
+        within = omega arith;
+        some = λ o. not-on (sym o);
+        more = λ o. omega arith;
+        runs = λ o. runs;
+        executes = λ o. x;
+      }
+
+  module _ {w′ : List ℕ} {r′ : Registers} (h : 0 < left) (d : Stepped pre body w r w′ r′) where
+    pub after-inv : run (most - (left - 1)) (both pre body) (abs w₀ r₀) ≡ abs w′ r′
+    after-inv =
+        let z : most - (left - 1) ≡ suc (most - left) = omega arith in
+        rw (z, run-next (both pre body) (most - left) (abs w₀ r₀) w r inv runs) (sym (d .does))
+
+    pub after-led : r′ .ok ≡ false → Led (both pre body) most w₀ r₀ w′ r′
+    after-led o =
+        let z : r′ .steps - r₀ .steps ≡ most - (left - 1) = omega (arith, d .counted) in
+        record {
+          good = d .good;
+          does = rw z after-inv;
+          keeps = d .keeps ∙ same;
+          since = omega (arith, d .counted);
+          within = omega (arith, d .counted);
+          some = λ _. omega (arith, d .counted);
+          more = λ k. not-on (sym o ∙ k);
+          runs = λ k. not-on (sym o ∙ k);
+          executes = λ k. not-on (sym o ∙ k);
+        }
+
+  pub led-all : Good w r → 0 < most → left ≤ 0 → r .ok ≡ false → Led (both pre body) most w₀ r₀ w r
+  led-all g h l o =
+      let z : r .steps - r₀ .steps ≡ most - left = omega arith in
+      record {
+        good = g;
+        does = rw z inv;
+        keeps = same;
+        since = omega arith;
+        within = omega arith;
+        some = λ _. omega arith;
+        more = λ k. not-on (sym o ∙ k);
+        runs = λ k. not-on (sym o ∙ k);
+        executes = λ k. not-on (sym o ∙ k);
+      }
+
+-- and one step more
+module _ {w w₁ : List ℕ} {r q : Registers} (pre body : List ℕ) (most : ℕ) (t : Led (both pre body) most w r w₁ q) where
+  pub onward-paced : {w′ : List ℕ} {r′ : Registers} → q .ok ≡ true → Stepped pre body w₁ q w′ r′ → Onward (both pre body) most w r w′ r′
+  onward-paced {w′} {r′} o d =
+      let z : r′ .steps - r .steps ≡ suc (q .steps - r .steps) = omega (arith, d .counted, t .since) in
+      record {
+        good = d .good;
+        does = d .does ∙ (rw (z, run-next (both pre body) (q .steps - r .steps) (abs w r) w₁ q (t .does) (t .runs o)));
+        keeps = d .keeps ∙ t .keeps;
+        some = omega (arith, d .counted, t .since);
+        within = omega (arith, d .counted, t .more o);
+      }
+
+  pub onward-led : q .ok ≡ false → Onward (both pre body) most w r w₁ q
+  onward-led o = record { good = t .good; does = sym (t .does); keeps = t .keeps; some = t .some o; within = t .within }
+
+pub run-onward : {R : State} {code : Code} {w w′ : List ℕ} {r r′ : Registers} (n : ℕ) → run n code (abs w r) ≡ R → Onward code n w r w′ r′ → run (n - (r′ .steps - r .steps)) code (abs w′ r′) ≡ R
+run-onward {R} {code} {w} {w′} {r} {r′} n inv d =
+    let k = r′ .steps - r .steps in
+    let z : n ≡ k + (n - k) = omega (arith, d .within) in
+    rw (d .does) (sym (run-both code k (n - k) (abs w r))) ∙ (rw z at inv)

@@ -1,2 +1,0 @@
--- The laws. Assumes nothing.
-pub mod Executing

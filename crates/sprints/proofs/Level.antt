@@ -1,0 +1,217 @@
+-- What a literal with a flat effect leaves as it is, so that the new height of the stack tells the registers after it. Assumes nothing.
+use Prim.Native.Nat.{ℕ, suc, _-_, _≤_, _<_}
+use native.Mathlib.Omega.{arith}
+use mathlib.Core.Path.{_≡_, refl, sym, ap, _∙_}
+use mathlib.Core.Bool.{Bool, true, false}
+use mathlib.Core.List.{List, [], _∷_, _++_}
+use mathlib.Core.Option.{Option, none, some}
+use lib.ListN.{length, take, drop}
+use Rattle.table.specs.Slots.{slots}
+use Rattle.machine.specs.declared.Value.{Value}
+use Rattle.machine.specs.declared.Work.{Work}
+use Rattle.machine.specs.declared.Work.the-variants.{Nothing, Fetch, Element, Build, Spell, Utter, Compose, Repeat, Turn, Match, Report}
+use Rattle.machine.specs.declared.Next.{Next}
+use Rattle.machine.specs.declared.Next.the-variants.{Works, Inline, Call, Store, Place, Remove, Tally}
+use Rattle.machine.specs.declared.Effect.{Effect}
+use Rattle.machine.specs.declared.Effect.the-variants.{Fail, Gives, Gives2, Acts}
+use Rattle.machine.specs.declared.Literal.{Literal}
+use Rattle.machine.specs.State.{Entry, val, mark, Context, State, running}
+use Rattle.machine.specs.Literal.{Code}
+use Rattle.machine.specs.Operators.{popped}
+use Rattle.machine.specs.Contexts.{beneath, over}
+use Rattle.machine.specs.Engine.{limited, withContexts, values, withValues, pops, push, repeat, turn, worked, noted, storeIn, store, removeAt, remove, tallyAt, tally, does, affected}
+use Rattle.machine.specs.Step.{effectAt, execute}
+use Rattle.machine.proofs.Changes.{OnSome, limited-on, provided-on}
+use Rattle.state.specs.declared.Registers.{Registers}
+use Rattle.state.specs.Layout.{abs, answer, Tried}
+use Rattle.state.proofs.Parts.{length-contexts, length-values}
+use Rattle.state.proofs.Ending.{not-on}
+use Rattle.effects.proofs.Acting.{beneath-few}
+use Rattle.sprints.specs.Swift.{raised, Stays, Flat}
+
+-- ---- effects that make no cells, enter no body and place no mark
+
+abbrev flatWork : Work → Bool
+flatWork Nothing = true
+flatWork (Fetch j) = true
+flatWork (Element cell) = true
+flatWork (Build lower n) = false
+flatWork (Spell start) = false
+flatWork (Utter start len) = true
+flatWork (Compose start len) = false
+flatWork (Repeat n) = true
+flatWork (Turn n m) = true
+flatWork (Match v u) = true
+flatWork (Report v) = true
+
+abbrev flatNext : Next → Bool
+flatNext (Works x) = flatWork x
+flatNext (Inline start len owes) = false
+flatNext (Call origin start len first) = false
+flatNext (Store j) = true
+flatNext (Place n) = false
+flatNext (Remove n) = true
+flatNext Tally = true
+
+abbrev pub flat : Effect → Bool
+flat Fail = false
+flat (Gives a) = true
+flat (Gives2 a b) = true
+flat (Acts x) = flatNext x
+
+-- ---- the stack from its topmost mark on down
+
+beneath-over : (vs : List Value) (s : List Entry) → beneath (over vs s) ≡ beneath s
+unfolding beneath over
+beneath-over [] s = refl
+beneath-over (v ∷ vs) s = beneath-over vs s
+
+beneath-again : (s : List Entry) → beneath (beneath s) ≡ beneath s
+unfolding beneath
+beneath-again [] = refl
+beneath-again (val v ∷ s) = beneath-again s
+beneath-again (mark k ∷ s) = refl
+
+-- ---- states
+
+record Level (s t : State) : Type 0 where
+  contexts : length (t .contexts) ≡ length (s .contexts)
+  cells : length (t .cells) ≡ length (s .cells)
+  skipping : t .skipping ≡ s .skipping
+  steps : t .steps ≡ s .steps
+  errors : t .errors ≡ s .errors
+  low : length (beneath (t .stack)) ≤ length (beneath (s .stack))
+  here : running (t .contexts) .origin ≡ running (s .contexts) .origin
+
+stored-here : (j : ℕ) (v : Value) (cs : List Context) → running (storeIn j v cs) .origin ≡ running cs .origin
+unfolding storeIn running
+stored-here j v [] = refl
+stored-here j v (c ∷ cs) = refl
+
+stored-length : (j : ℕ) (v : Value) (cs : List Context) → length (storeIn j v cs) ≡ length cs
+unfolding storeIn
+stored-length j v [] = refl
+stored-length j v (c ∷ cs) = refl
+
+module _ (code : Code) (s : State) where
+  level-same : OnSome (Level s) (limited s)
+  level-same = limited-on (Level s) s (λ h. record { contexts = refl; cells = refl; skipping = refl; steps = refl; errors = refl; low = omega arith; here = refl })
+
+  level-push : (v : Value) → OnSome (Level s) (push v s)
+  unfolding push beneath
+  level-push v = limited-on (Level s) _ (λ h. record { contexts = refl; cells = refl; skipping = refl; steps = refl; errors = refl; low = omega arith; here = refl })
+
+  level-values : (vs : List Value) → OnSome (Level s) (limited (withValues vs (s .cells) s))
+  level-values vs =
+      let e : length (beneath (over vs (beneath (s .stack)))) ≡ length (beneath (s .stack)) = ap length (beneath-over vs (beneath (s .stack)) ∙ beneath-again (s .stack)) in
+      limited-on (Level s) _ (λ h. record { contexts = refl; cells = refl; skipping = refl; steps = refl; errors = refl; low = omega (arith, e); here = refl })
+
+  level-worked : (x : Work) → flatWork x ≡ true → OnSome (Level s) (worked code x s)
+  unfolding worked repeat turn
+  level-worked Nothing f = level-same
+  level-worked (Fetch j) f = level-push _
+  level-worked (Element cell) f = level-push _
+  level-worked (Build lower n) f = not-on f
+  level-worked (Spell start) f = not-on f
+  level-worked (Utter start len) f = level-push _
+  level-worked (Compose start len) f = not-on f
+  level-worked (Repeat n) f = provided-on _ _ _ (λ _. level-values (take n (values s) ++ values s))
+  level-worked (Turn n m) f = let vs = values s in provided-on _ _ _ (λ _. level-values (drop (n - m) (take n vs) ++ (take (n - m) vs ++ drop n vs)))
+  level-worked (Match v u) f = level-push _
+  level-worked (Report v) f = provided-on _ _ _ (λ _. level-same)
+
+  level-stored : (j : ℕ) (v : Value) → OnSome (Level s) (limited (noted (withContexts (storeIn j v (s .contexts)) (pops 1 s))))
+  unfolding noted pops
+  level-stored j v =
+      let vs = drop 1 (values s) in
+      let e : length (beneath (over vs (beneath (s .stack)))) ≡ length (beneath (s .stack)) = ap length (beneath-over vs (beneath (s .stack)) ∙ beneath-again (s .stack)) in
+      limited-on (Level s) _ (λ h. record { contexts = stored-length j v (s .contexts); cells = refl; skipping = refl; steps = refl; errors = refl; low = omega (arith, e); here = stored-here j v (s .contexts) })
+
+  level-removed : (id n : ℕ) (vs : List Value) (t : List Entry) → beneath (s .stack) ≡ t → OnSome (Level s) (removeAt id n vs t s)
+  unfolding removeAt
+  level-removed id n vs [] e = tt
+  level-removed id n vs (val v ∷ t) e = tt
+  level-removed id n vs (mark k ∷ t) e =
+      let a : length (beneath (s .stack)) ≡ suc (length t) = ap length e in
+      let b : length (beneath (over vs t)) ≡ length (beneath t) = ap length (beneath-over vs t) in
+      provided-on _ _ _ (λ _. limited-on (Level s) _ (λ h. record { contexts = refl; cells = refl; skipping = refl; steps = refl; errors = refl; low = omega (arith, a, b, beneath-few t); here = refl }))
+
+  level-tallied : (id n : ℕ) (t : List Entry) → OnSome (Level s) (tallyAt id n t s)
+  unfolding tallyAt
+  level-tallied id n [] = tt
+  level-tallied id n (val v ∷ t) = tt
+  level-tallied id n (mark k ∷ t) = provided-on _ _ _ (λ _. level-push _)
+
+  level-does : (x : Next) → flatNext x ≡ true → OnSome (Level s) (does code x s)
+  unfolding does store remove tally
+  level-does (Works x) f = level-worked x f
+  level-does (Inline start len owes) f = not-on f
+  level-does (Call origin start len first) f = not-on f
+  level-does (Store j) f = provided-on _ _ _ (λ _. level-stored j _)
+  level-does (Place n) f = not-on f
+  level-does (Remove n) f = level-removed _ n _ _ refl
+  level-does Tally f = level-tallied _ _ _
+
+  level-affected : (e : Effect) → flat e ≡ true → OnSome (Level s) (affected code e s)
+  unfolding affected push beneath
+  level-affected Fail f = not-on f
+  level-affected (Gives a) f = level-push _
+  level-affected (Gives2 a b) f = limited-on (Level s) _ (λ h. record { contexts = refl; cells = refl; skipping = refl; steps = refl; errors = refl; low = omega arith; here = refl })
+  level-affected (Acts x) f = level-does x f
+
+-- values popped before
+level-popped : (n : ℕ) (s : State) (o : Option State) → OnSome (Level (pops n s)) o → OnSome (Level s) o
+unfolding pops
+level-popped n s none h = tt
+level-popped n s (some t) h =
+    let e : length (beneath (over (drop n (values s)) (beneath (s .stack)))) ≡ length (beneath (s .stack)) = ap length (beneath-over (drop n (values s)) (beneath (s .stack)) ∙ beneath-again (s .stack)) in
+    record { contexts = h .contexts; cells = h .cells; skipping = h .skipping; steps = h .steps; errors = h .errors; low = omega (arith, e, h .low); here = h .here }
+
+level-execute : (code : Code) (x : Literal) (s : State) → flat (effectAt x s) ≡ true → OnSome (Level s) (execute code x s)
+unfolding execute
+level-execute code x s f = provided-on _ _ _ (λ _. level-popped (popped x) s (affected code (effectAt x s) (pops (popped x) s)) (level-affected code (pops (popped x) s) (effectAt x s) f))
+
+-- ---- the registers
+
+registers-path : {p : Registers} (r : Registers) (h : ℕ) → p .height ≡ h → p .depth ≡ r .depth → p .used ≡ r .used → p .steps ≡ r .steps → p .errors ≡ r .errors → p .skipping ≡ r .skipping → p .ok ≡ true → p ≡ raised r h
+registers-path r h a b c d e f g = λ i. record { height = a i; depth = b i; used = c i; steps = d i; errors = e i; skipping = f i; ok = g i }
+
+level-of : {s t : State} (o : Option State) → OnSome (Level s) o → o ≡ some t → Level s t
+level-of {s} o h e = rw e at h
+
+pub stays-none : {w w′ : List ℕ} {r : Registers} (h : ℕ) → 128 < h → Stays w r w′ h
+stays-none h more = record { low = λ k. absurd (omega arith); here = λ k. absurd (omega arith); keeps = λ k. absurd (omega arith) }
+
+module _ {w w′ : List ℕ} {r : Registers} (code : Code) (x : Literal) (f : flat (effectAt x (abs w r)) ≡ true) where
+  -- a height that is one
+  pub flat-made : (h : ℕ) → h ≤ 128 → Tried (execute code x) w r w′ (raised r h) → Flat (execute code x) w r w′ h
+  unfolding answer
+  flat-made h few t =
+      let l = level-of (execute code x (abs w r)) (level-execute code x (abs w r) f) (sym (t .does)) in
+      record { made = λ _. t; stays = record { low = λ _. l .low; here = λ _. l .here; keeps = λ _. t .keeps }; back = λ b. absurd (omega arith) }
+
+  by-ok : (h : ℕ) (p : Registers) (b : Bool) → p .ok ≡ b → (p .ok ≡ true → h ≡ p .height) × (p .ok ≡ false → h ≡ 129) → Tried (execute code x) w r w′ p → Flat (execute code x) w r w′ h
+  unfolding answer
+  by-ok h p true o a t =
+      let d : some (abs w′ p) ≡ execute code x (abs w r) = rw o at (t .does) in
+      let l = level-of (execute code x (abs w r)) (level-execute code x (abs w r) f) (sym d) in
+      let deep : p .depth ≡ r .depth = sym (length-contexts (slots w′) (p .depth)) ∙ l .contexts ∙ length-contexts (slots w) (r .depth) in
+      let used : p .used ≡ r .used = sym (length-values (slots w′) 728 (p .used)) ∙ l .cells ∙ length-values (slots w) 728 (r .used) in
+      let e : p ≡ raised r h = registers-path r h (sym (a .0 o)) deep used (l .steps) (l .errors) (l .skipping) o in
+      flat-made h (omega (arith, a .0 o, t .busy .stack-fits)) (rw e at t)
+  by-ok h p false o a t = record { made = λ b. absurd (omega (arith, a .1 o)); stays = stays-none h (omega (arith, a .1 o)); back = λ b. t .back o }
+
+  -- the height that an operation answers
+  pub flat-of : (h : ℕ) (p : Registers) → (p .ok ≡ true → h ≡ p .height) × (p .ok ≡ false → h ≡ 129) → Tried (execute code x) w r w′ p → Flat (execute code x) w r w′ h
+  flat-of h p a t = by-ok h p (p .ok) refl a t
+
+-- nothing done
+pub flat-undone : {f : State → Option State} {w : List ℕ} {r : Registers} (h : ℕ) → 128 < h → Flat f w r w h
+flat-undone h more = record { made = λ b. absurd (omega arith); stays = stays-none h more; back = λ b. refl }
+
+-- what the height tells of an operation
+pub tells-on : (b : Bool) (h : ℕ) → b ≡ true → (b ≡ true → h ≡ h) × (b ≡ false → h ≡ 129)
+tells-on b h e = (λ i. refl, λ i. not-on (sym i ∙ e))
+
+pub tells-off : (b : Bool) (k h : ℕ) → k ≡ 129 → b ≡ false → (b ≡ true → k ≡ h) × (b ≡ false → k ≡ 129)
+tells-off b k h u e = (λ i. not-on (sym e ∙ i), λ i. u)

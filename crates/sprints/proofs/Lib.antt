@@ -1,0 +1,3 @@
+-- The laws, lowest first. Assumes nothing.
+pub mod Level
+pub mod Swiftly
