@@ -26,7 +26,7 @@ use Rattle.machine.specs.Operand.{natural}
 use Rattle.machine.specs.Contexts.{beneath}
 use Rattle.machine.specs.Engine.{provided, push, allCardinals, elementsOf, bit, build, spell, compose, repeat, turn, worked, store, place, remove, tally, inline, call, does, affected}
 use Rattle.operands.specs.Sizes.{SizedWork, SizedNext, Sized}
-use Rattle.literals.specs.Names.{both, dataAt, sameText}
+use Rattle.names.specs.Names.{both, dataAt, sameText}
 use Rattle.state.specs.declared.Place as at
 use Rattle.state.specs.declared.Registers.{Registers}
 use Rattle.state.specs.Layout.{valuesAt, stackOf, Busy, Tried}

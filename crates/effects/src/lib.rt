@@ -11,7 +11,7 @@ ghost use Rattle.machine.specs.Operand.{natural};
 ghost use Rattle.machine.specs.Engine.{spell, inline, call, worked, does, affected};
 ghost use Rattle.operands.specs.Sizes.{SizedWork, SizedNext, Sized};
 ghost use Rattle.state.specs.Layout.{Busy, Tried};
-ghost use Rattle.literals.specs.Names.{both, dataAt};
+ghost use Rattle.names.specs.Names.{both, dataAt};
 ghost use Rattle.origins.specs.Bodies.{Short};
 use machine::Effect;
 use machine::Next;
@@ -50,7 +50,7 @@ pub fn inline<'a>(
 {
     let c = contexts::bodies::running(w, r.depth);
     let b = origins::bytes_of(pre, body, c.origin);
-    let at = skeleton::bodies::past_comments(b, table::words::size(start));
+    let at = nesting::bodies::past_comments(b, table::words::size(start));
     contexts::bodies::inline(w, r, table::words::word(at), start + len, owes)
 }
 
@@ -77,7 +77,7 @@ pub fn call<'a>(
     if end > b.len() {
         return state::stack::failed(r);
     }
-    let at = skeleton::bodies::past_comments(b, table::words::size(start));
+    let at = nesting::bodies::past_comments(b, table::words::size(start));
     contexts::bodies::call(
         w,
         r,
@@ -145,7 +145,7 @@ fn matches<'a>(
 {
     let x = place_of(v);
     let y = place_of(u);
-    let same = literals::names::same_text(pre, body, x.origin, x.start, y.origin, y.start);
+    let same = names::same_text(pre, body, x.origin, x.start, y.origin, y.start);
     state::stack::push_number(w, r, figure(same))
 }
 

@@ -34,7 +34,7 @@ use Rattle.operands.specs.declared.Card.the-variants.{No, Is}
 use Rattle.operands.specs.Operands.{cardOf}
 use Rattle.operands.proofs.Reading.{no-operator, no-card, is-card}
 use Rattle.machine.proofs.Value.{the-type}
-use Rattle.literals.specs.Names.{both}
+use Rattle.names.specs.Names.{both}
 use Rattle.state.specs.declared.Place.{Place}
 use Rattle.state.specs.declared.Registers.{Registers}
 use Rattle.state.specs.declared.Tops.{Tops}

@@ -20,7 +20,7 @@ use Rattle.machine.proofs.Inside.{HeldIn, found-inside}
 use Rattle.literals.specs.declared.Ahead.{Ahead}
 use Rattle.literals.specs.declared.Due.{Due}
 use Rattle.literals.specs.Dues.{Is, Passes}
-use Rattle.literals.specs.Names.{both}
+use Rattle.names.specs.Names.{both}
 use Rattle.state.specs.declared.Place.{Place}
 use Rattle.state.specs.declared.Registers.{Registers}
 use Rattle.state.specs.Layout.{stackOf, contextsOf, abs, Busy, Done, Tried, Begun}

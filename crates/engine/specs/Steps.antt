@@ -7,7 +7,7 @@ use Rattle.machine.specs.declared.Literal.{Literal}
 use Rattle.machine.specs.declared.Literal.the-variants.{Figure, Name, Text, Plain, WithBody}
 use Rattle.machine.specs.Literal.{Code}
 use Rattle.machine.specs.Step.{step, run}
-use Rattle.literals.specs.Names.{both}
+use Rattle.names.specs.Names.{both}
 use Rattle.state.specs.declared.Registers.{Registers}
 use Rattle.state.specs.Layout.{aside, abs, Good}
 use Rattle.sprints.specs.Swift.{Executes}

@@ -2,7 +2,7 @@
 // `effects::affect`.
 ghost use Rattle.machine.specs.Engine.{affected};
 ghost use Rattle.operands.specs.Sizes.{Sized};
-ghost use Rattle.literals.specs.Names.{both};
+ghost use Rattle.names.specs.Names.{both};
 ghost use Rattle.state.specs.Layout.{Busy, Tried};
 ghost use Rattle.origins.specs.Bodies.{Short};
 use machine::Effect;

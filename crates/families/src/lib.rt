@@ -8,7 +8,7 @@ ghost use Rattle.machine.specs.declared.Literal.the-variants.{Plain, WithBody};
 ghost use Rattle.machine.specs.declared.Op.the-variants.{OnVectors, OnStack, Tests, Reckons};
 ghost use Rattle.machine.specs.Operators.{opOf};
 ghost use Rattle.machine.specs.Step.{execute};
-ghost use Rattle.literals.specs.Names.{both};
+ghost use Rattle.names.specs.Names.{both};
 ghost use Rattle.state.specs.Layout.{Busy, Tried};
 ghost use Rattle.origins.specs.Bodies.{Short};
 use machine::ArithOp;

@@ -12,7 +12,7 @@ use Rattle.tokens.specs.declared.Read.{Read}
 use Rattle.tokens.specs.declared.Read.the-variants.{Number, Identifier, String, Operator, Comment, Unread}
 use Rattle.tokens.specs.declared.Refusal.{Refusal}
 use Rattle.tokens.specs.Token.{tokenAt}
-use Rattle.reader.specs.Point.{nextOf}
+use Rattle.points.specs.Point.{nextOf}
 use Rattle.numbers.proofs.Cond.{either}
 use Rattle.tokens.proofs.Told.{Told}
 use Rattle.lists.specs.declared.Place.{Place}

@@ -15,7 +15,7 @@ use Rattle.tokens.specs.declared.Read.{Read}
 use Rattle.tokens.specs.declared.Read.the-variants.{Number, Identifier, String, Operator, Comment, Unread}
 use Rattle.tokens.specs.declared.Refusal.{Refusal}
 use Rattle.tokens.specs.Joined.{joinedAt, FitsText}
-use Rattle.reader.specs.Point.{nextOf}
+use Rattle.points.specs.Point.{nextOf}
 use Rattle.tokens.specs.Text.{every, isName}
 use Rattle.tokens.specs.declared.Rule.the-variants.{Plain, Named}
 use Rattle.tokens.proofs.Told.{Told, Text}

@@ -12,7 +12,7 @@ use Rattle.tokens.specs.declared.Read.the-variants.{Number, Identifier, String,
 use Rattle.tokens.specs.declared.Refusal.{Refusal}
 use Rattle.tokens.specs.Joined.{joinedAt}
 use Rattle.tokens.specs.Token.{tokenAt}
-use Rattle.reader.specs.Point.{nextOf}
+use Rattle.points.specs.Point.{nextOf}
 use Rattle.tokens.proofs.Told.{Told, Text}
 use Rattle.lists.specs.declared.Step.{Step}
 use Rattle.lists.specs.declared.Step.the-variants.{Go, Stop}

@@ -11,7 +11,7 @@ use Rattle.tokens.specs.declared.Read.the-variants.{Number, Identifier, String,
 use Rattle.tokens.specs.Text.{lowered}
 use Rattle.tokens.specs.Joined.{whole, joinedAt}
 use Rattle.tokens.specs.Token.{tokenAt}
-use Rattle.reader.specs.Point.{nextOf}
+use Rattle.points.specs.Point.{nextOf}
 use Rattle.lists.specs.declared.Place.{Place}
 use Rattle.lists.specs.declared.Step.{Step}
 use Rattle.lists.specs.declared.Step.the-variants.{Go, Stop}

@@ -25,7 +25,7 @@ use Rattle.machine.specs.Skeleton.{roleOf, solid, bodyAt}
 use Rattle.machine.specs.Literal.{found, nothingAt, holdingBy, holdingAt, operatorBy, foundBy, foundAt}
 use Rattle.machine.proofs.Inside.{body-later}
 use Rattle.machine.proofs.Bodies.{body-long}
-use Rattle.skeleton.proofs.BodyTurns.{no-operator}
+use Rattle.nesting.proofs.BodyTurns.{no-operator}
 use Rattle.literals.specs.declared.Due.{Due}
 use Rattle.literals.specs.Dues.{Is}
 

@@ -31,7 +31,7 @@ use Rattle.machine.specs.Step.{isUnmark0}
 use Rattle.machine.proofs.Comments.{NoComment, never, Comments, none-at, one-at, comments-are}
 use Rattle.machine.proofs.Inside.{token-inside}
 use Rattle.machine.proofs.Literal.{the-type}
-use Rattle.skeleton.proofs.BodyTurns.{NoOperator, number-shown, operator-shown, cut-shown, operator-ends, no-operator}
+use Rattle.nesting.proofs.BodyTurns.{NoOperator, number-shown, operator-shown, cut-shown, operator-ends, no-operator}
 use Rattle.literals.specs.declared.Ahead.{Ahead}
 use Rattle.literals.specs.declared.Due.{Due}
 use Rattle.literals.specs.Dues.{Is, Passes, Tells}

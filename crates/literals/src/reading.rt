@@ -20,7 +20,7 @@ use spans::WORDS;
 fn found(b: &[u8], literal: Literal, next: usize) -> Due
     ensures { λ r. ⌜ Is (found (now (b .entry)) literal next) r ⌝ }
 {
-    let past = skeleton::bodies::past_comments(b, next);
+    let past = nesting::bodies::past_comments(b, next);
     Due {
         literal,
         next: past,
@@ -44,7 +44,7 @@ fn holding(b: &[u8], n: u16, next: usize, memo: &mut [u32]) -> Due
 {
     match spans::span_of(b, next, memo) {
         machine::Went::Past { next: end } => {
-            let start = skeleton::bodies::past_comments(b, next) + 2;
+            let start = nesting::bodies::past_comments(b, next) + 2;
             let literal = Literal::WithBody {
                 number: n,
                 start: table::words::word(start),
@@ -75,7 +75,7 @@ fn operator(b: &[u8], n: u16, next: usize, memo: &mut [u32]) -> Due
     requires { ⌜ (length (now b) ≤ 16777215) × (next ≤ length (now b)) × Noted (now b) (now memo) ⌝ }
     ensures { λ r. ⌜ Is (operatorBy (roleOf n) (now (b .entry)) n next) r × Noted (now (b .entry)) (now (memo .exit)) ⌝ }
 {
-    let role = skeleton::roles::role_of(n);
+    let role = nesting::roles::role_of(n);
     match role {
         Role::Holds => holding(b, n, next, memo),
         _ => bodiless(b, role, n, next),
@@ -136,10 +136,10 @@ pub fn bare_operator(b: &[u8], at: usize) -> Bare
     ensures { λ r. ⌜ Tells (now (b .entry)) at r ⌝ }
 {
     match tokens::forms::form_at(b, at) {
-        tokens::Form::Operator { number, next } => match skeleton::roles::role_of(number) {
+        tokens::Form::Operator { number, next } => match nesting::roles::role_of(number) {
             Role::Plain => Bare {
                 number,
-                next: skeleton::bodies::past_comments(b, next),
+                next: nesting::bodies::past_comments(b, next),
             },
             _ => Bare {
                 number: UNTOLD,
@@ -181,7 +181,7 @@ fn past_sequence(b: &[u8], at: usize) -> Ahead
 {
     match reader::passing::pass_sequence(b, at) {
         tokens::Pass::Over { next } => Ahead {
-            next: skeleton::bodies::past_comments(b, next),
+            next: nesting::bodies::past_comments(b, next),
             unmarks: false,
         },
         tokens::Pass::Unread {
@@ -196,7 +196,7 @@ fn passed_operator(b: &[u8], n: u16, next: usize) -> Due
     requires { ⌜ (length (now b) ≤ 16777215) × (next ≤ length (now b)) ⌝ }
     ensures { λ r. ⌜ Is (operatorBy (roleOf n) (now (b .entry)) n next) r ⌝ }
 {
-    let role = skeleton::roles::role_of(n);
+    let role = nesting::roles::role_of(n);
     match role {
         Role::Holds => {
             let mut memo = [0u32; WORDS];
@@ -213,12 +213,12 @@ pub fn ahead(b: &[u8], at: usize) -> Ahead
 {
     match tokens::forms::form_at(b, at) {
         tokens::Form::Number { raw: _, next } => Ahead {
-            next: skeleton::bodies::past_comments(b, next),
+            next: nesting::bodies::past_comments(b, next),
             unmarks: false,
         },
         tokens::Form::Operator { number, next } => told(passed_operator(b, number, next)),
         tokens::Form::Sequence => {
-            if skeleton::bodies::is_solid(b, at) {
+            if nesting::bodies::is_solid(b, at) {
                 return past_sequence(b, at);
             }
             told(due_sequence(b, at))

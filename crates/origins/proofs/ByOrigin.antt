@@ -23,7 +23,7 @@ use Rattle.literals.specs.declared.Ahead.{Ahead}
 use Rattle.literals.specs.declared.Due.{Due}
 use Rattle.literals.specs.Dues.{Is, Passes}
 use Rattle.literals.proofs.Passing.{comments-end, solid-inside}
-use Rattle.literals.specs.Names.{both}
+use Rattle.names.specs.Names.{both}
 use Rattle.tokens.proofs.Theorems.{token-end}
 use Rattle.spans.specs.Memo.{Noted}
 use Rattle.origins.specs.Bodies.{Short, Noting}

@@ -1,7 +1,7 @@
 // Bytes by origin: 0 is the preamble's body, 1 the page's; no other has any.
 ghost use mathlib.Core.Path.{_≡_};
 ghost use Rattle.machine.specs.Literal.{bytesOf, foundAt};
-ghost use Rattle.literals.specs.Names.{both};
+ghost use Rattle.names.specs.Names.{both};
 ghost use Rattle.literals.specs.Dues.{Is};
 ghost use Rattle.origins.specs.Bodies.{Short, Noting};
 use literals::Due;

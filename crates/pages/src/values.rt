@@ -38,7 +38,7 @@ pub fn word_at(b: &[u8], at: usize) -> u32 {
 
 // A continued sequence stands at a place.
 fn continues(b: &[u8], at: usize) -> bool {
-    if reader::point::left_at(b, at) == 0 {
+    if points::left_at(b, at) == 0 {
         return false;
     }
     sequences::is_continued(b[at])

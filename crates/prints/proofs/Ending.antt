@@ -14,7 +14,7 @@ use Rattle.machine.specs.Skeleton.{solid}
 use Rattle.machine.specs.Literal.{bytesOf}
 use Rattle.machine.specs.Step.{run, begin}
 use Rattle.machine.specs.Page.{preambleEnd}
-use Rattle.literals.specs.Names.{both}
+use Rattle.names.specs.Names.{both}
 use Rattle.state.specs.declared.Registers.{Registers}
 use Rattle.state.specs.Layout.{valuesAt, aside, abs}
 use Rattle.state.specs.Operations.{filled, opening, Opened}

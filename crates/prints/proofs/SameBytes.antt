@@ -16,7 +16,7 @@ use Rattle.machine.specs.State.{State, running}
 use Rattle.machine.specs.Literal.{Code, bytesOf, textOf}
 use Rattle.machine.specs.Engine.{spell, worked, contextOf, inline, kept, call, does, affected}
 use Rattle.machine.specs.Step.{execute, literalStep, stepBy, dueIn, step, run, begin}
-use Rattle.literals.specs.Names.{both}
+use Rattle.names.specs.Names.{both}
 
 module _ (c d : Code) (same : (o : ℕ) → bytesOf c o ≡ bytesOf d o) where
   text-same : (v : Value) → textOf c v ≡ textOf d v

@@ -12,7 +12,7 @@ use Rattle.machine.specs.Limits.{mostPages, scratchSize, mostCells}
 use Rattle.machine.specs.Promise.{finished, over, runAnswer, rowsLeaves, reprintAnswer, rowLeaves, sectionsLeaves}
 use Rattle.skeleton.specs.Spans.{Placed}
 use Rattle.machine.specs.Page.{Result, preambleEnd, pageResult, rowBytes, sectionBytes}
-use Rattle.literals.specs.Names.{both}
+use Rattle.names.specs.Names.{both}
 use Rattle.state.specs.declared.Registers.{Registers}
 use Rattle.state.specs.Layout.{valuesAt, aside, abs, Good}
 

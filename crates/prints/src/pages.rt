@@ -12,7 +12,7 @@ pub fn preamble<'a>(w: &mut [u8], pre: &'a [u8], none: &'a [u8], allowance: usiz
     ensures { λ q. ⌜ Preambled (now (pre .entry)) allowance (now (w .exit)) q ⌝ }
 {
     contexts::frames::zero_frame(w);
-    let at = skeleton::bodies::past_comments(pre, 0);
+    let at = nesting::bodies::past_comments(pre, 0);
     let r = contexts::bodies::open(
         w,
         0,
@@ -37,7 +37,7 @@ pub fn page<'a>(
     ensures { λ q. ⌜ Paged (now (pre .entry)) (now (body .entry)) used allowance (now (w .entry)) (now (w .exit)) q ⌝ }
 {
     contexts::frames::take_frame(w);
-    let at = skeleton::bodies::past_comments(body, 0);
+    let at = nesting::bodies::past_comments(body, 0);
     let r = contexts::bodies::open(
         w,
         1,

@@ -1,2 +1,1 @@
-pub mod BodyTurns
 pub mod PageTurns

@@ -1,6 +1,4 @@
 // The skeleton check of a master (document 01, Skeleton), and `load`. The definitions are those of `machine`.
-pub mod roles; // operators, to the skeleton
-pub mod bodies; // bodies and literals, each by the other
 pub mod pages; // header, BEGIN, preamble, pages, END; load
 
 // What stands where a page or END is due: a comment, a page's body, END at the end of the bytes; or a refusal.

@@ -11,18 +11,15 @@ ghost use Rattle.skeleton.specs.declared.Turn.the-variants.{Halt};
 ghost use Rattle.skeleton.specs.Spans.{Placed, Surveyed, noted};
 ghost use Rattle.skeleton.specs.Turns.{pageTurn, endTurn, turnAt};
 use crate::Turn;
-use crate::bodies;
-use crate::roles;
 use machine::Went;
+use nesting::bodies;
+use nesting::roles;
 use tokens::Outcome;
 use tokens::Read;
 use tokens::refusals::refused;
 
 // The most pages.
 const MOST_PAGES: usize = 512;
-
-// The most bodies that may be open at once.
-pub const MOST_OPEN: usize = 16;
 
 fn page_turn(s: &[u8], had: usize, at: usize) -> Turn
     ensures { λ r. ⌜ r ≡ pageTurn (now (s .entry)) had at ⌝ }
@@ -33,7 +30,7 @@ fn page_turn(s: &[u8], had: usize, at: usize) -> Turn
             place: at,
         };
     }
-    match bodies::body(s, at, MOST_OPEN) {
+    match bodies::body(s, at, bodies::MOST_OPEN) {
         Went::Past { next } => Turn::Page { next },
         Went::Stop { refusal, place } => Turn::Halt { refusal, place },
     }
@@ -127,7 +124,7 @@ fn preamble_on(s: &[u8], at: usize, places: &mut [usize]) -> Outcome
     requires { ⌜ 1026 ≤ length (now places) ⌝ }
     ensures { λ r. ⌜ Surveyed (now (s .entry)) (now (places .exit)) (preambleAt (now (s .entry)) at) r ⌝ }
 {
-    match bodies::body(s, at, MOST_OPEN) {
+    match bodies::body(s, at, bodies::MOST_OPEN) {
         Went::Past { next } => {
             note(places, 0, bodies::past_comments(s, at), next);
             pages(s, next, places)

@@ -21,7 +21,7 @@ use Rattle.machine.proofs.Inside.{PassedIn, WentIn, literal-later, due-inside, 
 use Rattle.machine.proofs.Bodies.{body-later, body-ends}
 use Rattle.machine.proofs.BodyLocal.{body-more}
 use Rattle.spans.specs.Memo.{Noted, withNote, Seen, Opened}
-use Rattle.skeleton.proofs.BodyTurns.{turn, entered}
+use Rattle.nesting.proofs.BodyTurns.{turn, entered}
 
 -- ---- room for literals
 

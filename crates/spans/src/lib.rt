@@ -8,9 +8,9 @@ ghost use Rattle.machine.specs.Skeleton.{bodyAt};
 ghost use Rattle.spans.specs.Memo.{Noted, withNote, Seen, Opened};
 use machine::Role;
 use machine::Went;
-use skeleton::bodies;
-use skeleton::pages::MOST_OPEN;
-use skeleton::roles;
+use nesting::bodies;
+use nesting::bodies::MOST_OPEN;
+use nesting::roles;
 use tokens::Form;
 use tokens::Pass;
 

@@ -160,7 +160,7 @@ fn literal(w: &mut [u8], r: Registers, b: &[u8], at: usize, clear: usize) -> usi
 {
     match tokens::forms::form_at(b, at) {
         Form::Number { raw, next } => {
-            if skeleton::bodies::is_solid(b, next) {
+            if nesting::bodies::is_solid(b, next) {
                 let q = contexts::bodies::begin(w, r, table::words::word(next));
                 let a = reader::reading::short_value(raw);
                 return height_of(state::stack::push_number(w, q, a));
@@ -168,7 +168,7 @@ fn literal(w: &mut [u8], r: Registers, b: &[u8], at: usize, clear: usize) -> usi
             UNDONE
         }
         Form::Operator { number, next } => {
-            if skeleton::bodies::is_solid(b, next) {
+            if nesting::bodies::is_solid(b, next) {
                 let q = contexts::bodies::begin(w, r, table::words::word(next));
                 return operate(w, q, number, clear);
             }

@@ -4,7 +4,7 @@ use native.Mathlib.Omega.{arith}
 use borrow.Author.Needs.{needs}
 use Rattle.tokens.specs.declared.Refusal.the-variants.{TooDeep}
 use Rattle.machine.specs.declared.Went.the-variants.{Stop}
-use Rattle.skeleton.proofs.BodyTurns.{due-there, stopped, full}
+use Rattle.nesting.proofs.BodyTurns.{due-there, stopped, full}
 use Rattle.spans.proofs.opened.Statement.{statement}
 use Rattle.spans.proofs.opened.Tie as tie
 

@@ -6,7 +6,7 @@ use lib.ListN.{length}
 use borrow.Author.Needs.{needs}
 use Rattle.spans.specs.Memo.{Noted}
 use Rattle.spans.proofs.SpanTurns.{opened-passed, opened-stopped, Within, Awaits, awaits-first, awaits-stops, opens-later, awaits-opens, within-on, later-on, within-holds, within-stops, within-ends, within-last, within-closes, note-long, end-fits, note-kept}
-use Rattle.skeleton.proofs.BodyTurns.{operator-ends, sequence-shown, number-on, plain-on, closing, barred, held-there, passed, passedBy, cut}
+use Rattle.nesting.proofs.BodyTurns.{operator-ends, sequence-shown, number-on, plain-on, closing, barred, held-there, passed, passedBy, cut}
 use Rattle.spans.proofs.pass.Statement.{statement}
 use Rattle.spans.proofs.pass.Tie as tie
 

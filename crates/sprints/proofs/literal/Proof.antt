@@ -3,7 +3,7 @@ use borrow.Author.Needs.{needs}
 use native.Mathlib.Omega.{arith}
 use mathlib.Core.Path.{refl}
 use Rattle.sprints.proofs.Swiftly.{by-figure}
-use Rattle.skeleton.proofs.BodyTurns.{stands-at, sequence-shown, operator-ends}
+use Rattle.nesting.proofs.BodyTurns.{stands-at, sequence-shown, operator-ends}
 use Rattle.literals.proofs.Passing.{plain-found}
 use mathlib.Core.List.{[]}
 use Rattle.sprints.proofs.Swiftly.{number-inside, found-number, figure-flat, marked-begun, strode-none, strode, stays}

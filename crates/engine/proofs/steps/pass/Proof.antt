@@ -6,7 +6,7 @@ use mathlib.Core.Bool.{true, false}
 use lib.ListN.{length}
 use Prim.Native.Nat.{_+_, _-_, _≤_}
 use Rattle.machine.specs.Step.{run}
-use Rattle.literals.specs.Names.{both}
+use Rattle.names.specs.Names.{both}
 use Rattle.state.specs.Layout.{Good, abs, aside}
 use Rattle.origins.proofs.ByOrigin.{bytes-short, ahead-fits}
 use Rattle.engine.proofs.Stepping.{here-at, unmark-due, skip-step, still-skips, done-same}

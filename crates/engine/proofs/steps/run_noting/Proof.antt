@@ -5,7 +5,7 @@ use Prim.Native.Nat.{_+_, _≤_}
 use native.Mathlib.Omega.{arith}
 use lib.ListN.{length}
 use Rattle.machine.specs.Step.{run}
-use Rattle.literals.specs.Names.{both}
+use Rattle.names.specs.Names.{both}
 use Rattle.state.specs.Layout.{abs, aside, Good}
 use Rattle.origins.specs.Bodies.{Noting}
 use Rattle.engine.proofs.Stepping.{run-out, run-ended}

@@ -1,5 +1,5 @@
 -- `reading::ahead` meets its contract. Assumes nothing.
-use Rattle.skeleton.proofs.BodyTurns.{sequence-shown, operator-ends}
+use Rattle.nesting.proofs.BodyTurns.{sequence-shown, operator-ends}
 use Rattle.literals.proofs.Passing.{number-over, operator-found, cut-found, passes-as}
 use borrow.Author.Needs.{needs}
 use mathlib.Core.Path.{refl}

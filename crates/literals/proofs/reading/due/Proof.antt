@@ -1,6 +1,6 @@
 -- `reading::due` meets its contract. Assumes nothing.
 use Rattle.literals.proofs.Passing.{number-found, operator-found, cut-found, is-as}
-use Rattle.skeleton.proofs.BodyTurns.{sequence-shown, operator-ends}
+use Rattle.nesting.proofs.BodyTurns.{sequence-shown, operator-ends}
 use borrow.Author.Needs.{needs}
 use Rattle.literals.proofs.reading.due.Statement.{statement}
 use Rattle.literals.proofs.reading.due.Tie as tie
