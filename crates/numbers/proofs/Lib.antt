@@ -6,6 +6,5 @@ pub mod Machine
 pub mod SignedWord
 pub mod Rounding
 pub mod Limits
-pub mod Operations
 pub mod Reduced
 pub mod Theorems

@@ -1,9 +1,8 @@
-// Numbers of document 01: fractions in lowest terms inside the limits, and the arithmetic of 2.4.9 on them, exact.
-// Every operation takes every value of its types; a result is held against the limits only when it stands in lowest terms.
-pub mod arith; // the operations
+// Numbers of document 01: fractions in lowest terms inside the limits. What the operations of 2.4.9 mean on them is defined here; `arithmetic`
+// does them. A result is held against the limits only when it stands in lowest terms.
 mod euclid; // the greatest common divisor
 pub mod lowest; // a quotient in lowest terms, held against the limits
-mod wholes; // whole numbers as sign and size
+pub mod wholes; // whole numbers as sign and size
 pub mod words; // a numerator as its bits
 
 // A fraction. Of document 01's numbers the numerator is -2147483647 to 2147483647 and the denominator 1 to 2147483647.

@@ -34,7 +34,7 @@ pub fn arity(o: TestOp) -> usize
 fn is_less(a: Number, b: Number) -> bool
     ensures { λ r. ⌜ r ≡ isLess (orderOf a b) ⌝ }
 {
-    match numbers::arith::compare(a, b) {
+    match arithmetic::compare(a, b) {
         Order::Less => true,
         Order::Equal => false,
         Order::Greater => false,
@@ -44,7 +44,7 @@ fn is_less(a: Number, b: Number) -> bool
 fn is_equal(a: Number, b: Number) -> bool
     ensures { λ r. ⌜ r ≡ isEqual (orderOf a b) ⌝ }
 {
-    match numbers::arith::compare(a, b) {
+    match arithmetic::compare(a, b) {
         Order::Less => false,
         Order::Equal => true,
         Order::Greater => false,

@@ -36,18 +36,18 @@ fn reckon(o: ArithOp, a: Number, b: Number) -> Answer
     ensures { λ r. ⌜ r ≡ reckoned o a b ⌝ }
 {
     match o {
-        ArithOp::Add => numbers::arith::sum(a, b),
-        ArithOp::Sub => numbers::arith::difference(a, b),
-        ArithOp::Neg => numbers::arith::negative(b),
-        ArithOp::Abs => numbers::arith::size(b),
-        ArithOp::Floor => numbers::arith::floor(b),
-        ArithOp::Ceiling => numbers::arith::ceiling(b),
-        ArithOp::Trunc => numbers::arith::trunc(b),
-        ArithOp::Round => numbers::arith::round(b),
-        ArithOp::Mul => numbers::arith::product(a, b),
-        ArithOp::Div => numbers::arith::quotient(a, b),
-        ArithOp::Mod => numbers::arith::modulo(a, b),
-        ArithOp::Rem => numbers::arith::remainder(a, b),
+        ArithOp::Add => arithmetic::sum(a, b),
+        ArithOp::Sub => arithmetic::difference(a, b),
+        ArithOp::Neg => arithmetic::negative(b),
+        ArithOp::Abs => arithmetic::size(b),
+        ArithOp::Floor => arithmetic::floor(b),
+        ArithOp::Ceiling => arithmetic::ceiling(b),
+        ArithOp::Trunc => arithmetic::trunc(b),
+        ArithOp::Round => arithmetic::round(b),
+        ArithOp::Mul => arithmetic::product(a, b),
+        ArithOp::Div => arithmetic::quotient(a, b),
+        ArithOp::Mod => arithmetic::modulo(a, b),
+        ArithOp::Rem => arithmetic::remainder(a, b),
     }
 }
 
