@@ -138,7 +138,8 @@ fn operator<'a>(w: &mut [u8], r: Registers, pre: &'a [u8], body: &'a [u8], n: u1
     }
 }
 
-// ---- a step
+// ---- a step. From here on `early` has notes on where bodies of the preamble end, and `notes` on those of the page (DECISIONS, D72); both are
+// left with more.
 
 // The literal at `at` of the running body, which has the origin o, read whole.
 fn literal<'a>(
@@ -337,6 +338,7 @@ pub fn run<'a>(
     requires { ⌜ Good (now w) start × (start .steps + allowance ≤ 1000000) × Short (now pre) (now body) ⌝ }
     ensures { λ q. ⌜ Ran (now (pre .entry)) (now (body .entry)) allowance (now (w .entry)) start (now (w .exit)) q ⌝ }
 {
+    // all zero, they note nothing yet
     let mut early = [0u32; WORDS];
     let mut notes = [0u32; WORDS];
     run_noting(w, start, pre, body, &mut early, &mut notes, allowance)

@@ -40,7 +40,7 @@ fn put_part(lower: bool, text: &mut [u8], o: usize, s: &[u8], from: usize, len: 
     }
     let mut i: usize = 0;
     while i < len {
-        text[o + i] = tokens::text::lower(s[from + i]);
+        text[o + i] = pieces::text::lower(s[from + i]);
         i += 1;
     }
 }
@@ -53,7 +53,7 @@ fn copy_from(lower: bool, s: &[u8], start: usize, text: &mut [u8], o: usize)
     let mut at = start;
     let mut q = o;
     while at < s.len() {
-        match tokens::sequences::next_piece(s, at) {
+        match pieces::sequences::next_piece(s, at) {
             tokens::Piece::Missing => {
                 return;
             }
@@ -74,7 +74,7 @@ fn copy_text(lower: bool, s: &[u8], at: usize, text: &mut [u8], o: usize)
     requires { ⌜ (at < length (now s)) × FitsText (length (now text)) o (joinedAt (now s) at) ⌝ }
     ensures { λ _. ⌜ now (text .exit) ≡ sets (now (text .entry)) o (shown lower (dataOf (joinedAt (now (s .entry)) at))) ⌝ }
 {
-    match tokens::sequences::piece_at(s, at) {
+    match pieces::sequences::piece_at(s, at) {
         tokens::Piece::Missing => {
             return;
         }

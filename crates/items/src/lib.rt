@@ -59,10 +59,10 @@ fn is_name(x: &[u8], start: usize, len: usize) -> bool
     if 100 < len {
         return false;
     }
-    if !tokens::text::is_letter(x[start]) {
+    if !pieces::text::is_letter(x[start]) {
         return false;
     }
-    tokens::text::all_obey(tokens::Rule::Lowered, x, start, len)
+    pieces::text::all_obey(tokens::Rule::Lowered, x, start, len)
 }
 
 // The text can be written: as an identifier where `named`, else as a string.
@@ -73,7 +73,7 @@ fn is_text(named: bool, x: &[u8], start: usize, len: usize) -> bool
     if named {
         return is_name(x, start, len);
     }
-    tokens::text::all_obey(tokens::Rule::Plain, x, start, len)
+    pieces::text::all_obey(tokens::Rule::Plain, x, start, len)
 }
 
 fn text_at(named: bool, start: usize, len: usize) -> Item

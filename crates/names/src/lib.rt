@@ -13,7 +13,7 @@ fn letter(b: &[u8], at: usize, i: usize) -> u8
     if at >= b.len() {
         return 0;
     }
-    let tokens::Piece::Data { start, len } = tokens::sequences::piece_at(b, at) else {
+    let tokens::Piece::Data { start, len } = pieces::sequences::piece_at(b, at) else {
         return 0;
     };
     let mut from = start;
@@ -24,7 +24,7 @@ fn letter(b: &[u8], at: usize, i: usize) -> u8
         if next >= b.len() {
             return 0;
         }
-        match tokens::sequences::next_piece(b, next) {
+        match pieces::sequences::next_piece(b, next) {
             tokens::Piece::Missing => {
                 return 0;
             }
@@ -46,10 +46,10 @@ fn size_of(pre: &[u8], body: &[u8], origin: u32, start: usize) -> usize
     ensures { λ r. ⌜ r ≡ length (dataAt (both (now (pre .entry)) (now (body .entry))) origin start) ⌝ }
 {
     if origin == 0 {
-        return tokens::sequences::data_size(pre, start);
+        return pieces::sequences::data_size(pre, start);
     }
     if origin == 1 {
-        return tokens::sequences::data_size(body, start);
+        return pieces::sequences::data_size(body, start);
     }
     0
 }
@@ -81,8 +81,8 @@ pub fn same_text(pre: &[u8], body: &[u8], o1: u32, s1: u32, o2: u32, s2: u32) ->
     }
     let mut i: usize = 0;
     while i < n {
-        let a = tokens::text::lower(letter_of(pre, body, o1, x, i));
-        let b = tokens::text::lower(letter_of(pre, body, o2, y, i));
+        let a = pieces::text::lower(letter_of(pre, body, o1, x, i));
+        let b = pieces::text::lower(letter_of(pre, body, o2, y, i));
         if a != b {
             return false;
         }

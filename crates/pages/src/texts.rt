@@ -29,7 +29,7 @@ pub fn put_lower(out: &mut [u8; BUFFER], at: usize, s: &[u8]) -> usize {
     let mut p = at;
     let mut i: usize = 0;
     while i < s.len() {
-        p = put_byte(out, p, tokens::text::lower(s[i]));
+        p = put_byte(out, p, pieces::text::lower(s[i]));
         i += 1;
     }
     p

@@ -1,8 +1,8 @@
 // A value of the sections as text. Each function that puts answers the buffer's new length.
 use crate::texts;
 use crate::texts::BUFFER;
+use pieces::sequences;
 use tokens::Piece;
-use tokens::sequences;
 
 // `len` bytes from a place on; none where the bytes end before.
 pub fn part(b: &[u8], at: usize, len: usize) -> &[u8] {

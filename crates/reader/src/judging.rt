@@ -11,16 +11,16 @@ ghost use Rattle.tokens.specs.Bytes.{signedOf};
 ghost use Rattle.tokens.specs.Text.{isLetter};
 ghost use Rattle.tokens.specs.Token.{numberRead, integerSize, rationalSize, ruled};
 ghost use Rattle.tokens.specs.Inner.{Fitting, judgedBy, rationalBy};
+use pieces::text::is_letter;
+use pieces::values::extended;
+use pieces::values::high_half;
+use pieces::values::integer_size;
+use pieces::values::low_half;
+use pieces::values::name_size;
+use pieces::values::rational_size;
 use tokens::Read;
 use tokens::Refusal;
 use tokens::Summary;
-use tokens::text::is_letter;
-use tokens::values::extended;
-use tokens::values::high_half;
-use tokens::values::integer_size;
-use tokens::values::low_half;
-use tokens::values::name_size;
-use tokens::values::rational_size;
 
 pub fn bad_data(at: usize) -> Read
     ensures { λ r. ⌜ r ≡ Read.Unread Refusal.BadData at ⌝ }

@@ -13,16 +13,16 @@ ghost use Rattle.tokens.specs.Passing.{passOf, Answered};
 use crate::reading::read_token;
 use crate::single::is_continued_at;
 use crate::single::is_name;
+use pieces::sequences::piece_at;
+use pieces::text::all_obey;
+use pieces::values::integer_size;
+use pieces::values::rational_size;
+use pieces::values::value_after;
 use tokens::Pass;
 use tokens::Piece;
 use tokens::Read;
 use tokens::Rule;
 use tokens::bits::low5;
-use tokens::sequences::piece_at;
-use tokens::text::all_obey;
-use tokens::values::integer_size;
-use tokens::values::rational_size;
-use tokens::values::value_after;
 
 // Of the integers of up to 4 bytes this value alone, -2147483648, is outside the limits of a number.
 const LEAST: u64 = 2147483648;

@@ -9,6 +9,8 @@ ghost use Rattle.tokens.specs.Token.{tokenAt, sequence};
 use crate::judging::judge;
 use crate::single::is_continued_at;
 use crate::single::single;
+use pieces::sequences::gather;
+use pieces::sequences::piece_at;
 use tokens::Form;
 use tokens::Gathered;
 use tokens::Piece;
@@ -16,8 +18,6 @@ use tokens::Read;
 use tokens::Refusal;
 use tokens::bits::low5;
 use tokens::forms::form_at;
-use tokens::sequences::gather;
-use tokens::sequences::piece_at;
 
 fn cut_off(at: usize) -> Read
     ensures { λ r. ⌜ r ≡ Read.Unread Refusal.CutOff at ⌝ }

@@ -16,15 +16,15 @@ use crate::judging::integer;
 use crate::judging::rational;
 use crate::judging::string_read;
 use crate::judging::unruled;
+use pieces::sequences::is_continued;
+use pieces::text::all_obey;
+use pieces::text::is_letter;
+use pieces::values::integer_size;
+use pieces::values::name_size;
+use pieces::values::rational_size;
+use pieces::values::value_after;
 use tokens::Read;
 use tokens::Rule;
-use tokens::sequences::is_continued;
-use tokens::text::all_obey;
-use tokens::text::is_letter;
-use tokens::values::integer_size;
-use tokens::values::name_size;
-use tokens::values::rational_size;
-use tokens::values::value_after;
 
 // A continued token stands at `at`.
 pub fn is_continued_at(s: &[u8], at: usize) -> bool

@@ -41,7 +41,7 @@ fn put_pieces(w: &mut [u8], k: usize, b: &[u8], start: usize)
     let mut at = start;
     let mut q = k;
     while at < b.len() {
-        match tokens::sequences::next_piece(b, at) {
+        match pieces::sequences::next_piece(b, at) {
             tokens::Piece::Missing => {
                 return;
             }
@@ -68,7 +68,7 @@ fn put_letters(w: &mut [u8], k: usize, b: &[u8], at: usize, n: usize)
     if at >= b.len() {
         return;
     }
-    match tokens::sequences::piece_at(b, at) {
+    match pieces::sequences::piece_at(b, at) {
         tokens::Piece::Missing => {
             return;
         }
@@ -87,7 +87,7 @@ pub fn spell(w: &mut [u8], r: Registers, b: &[u8], at: usize) -> Registers
 {
     let height = r.height;
     let used = r.used;
-    let n = tokens::sequences::data_size(b, at);
+    let n = pieces::sequences::data_size(b, at);
     if height >= 128 {
         return state::stack::failed(r);
     }

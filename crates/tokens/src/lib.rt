@@ -3,9 +3,6 @@
 pub mod refusals; // every refusal of the product by number
 pub mod header; // the header of a master
 pub mod bits; // fields of a token's first bytes
-pub mod values; // sizes of data, bytes high byte first, two's complement
-pub mod text; // strings and identifiers
-pub mod sequences; // a sequence with its continuations
 pub mod forms; // the form of the token at a place
 
 // Why an input is refused. specs/Refusal.antt has the numbers.
