@@ -1,5 +1,3 @@
 -- The laws, lowest first. Assumes nothing.
 pub mod Booking
 pub mod Reprinting
-pub mod Corrected
-pub mod Theorems

@@ -179,7 +179,7 @@ fn past_sequence(b: &[u8], at: usize) -> Ahead
     requires { ⌜ (length (now b) ≤ 16777215) × NoComment (tokenAt (now b) at) × ((at < length (now b)) × (192 ≤ getD (now b) at 0)) ⌝ }
     ensures { λ r. ⌜ Passes (foundAt (now (b .entry)) at) r ⌝ }
 {
-    match reader::passing::pass_sequence(b, at) {
+    match passing::pass_sequence(b, at) {
         tokens::Pass::Over { next } => Ahead {
             next: nesting::bodies::past_comments(b, next),
             unmarks: false,

@@ -102,7 +102,7 @@ pub fn due_here(n: u16, s: &[u8], at: usize) -> Went
             }
         }
         Form::Number { raw: _, next: _ } => not_allowed(at),
-        Form::Sequence => match reader::passing::pass_sequence(s, at) {
+        Form::Sequence => match passing::pass_sequence(s, at) {
             Pass::Over { next: _ } => not_allowed(at),
             Pass::Unread { refusal, place } => Went::Stop { refusal, place },
         },
@@ -153,7 +153,7 @@ fn literals(s: &[u8], at: usize, left: usize) -> Went
                 },
                 Role::Barred => return not_allowed(p),
             },
-            Form::Sequence => match reader::passing::pass_sequence(s, p) {
+            Form::Sequence => match passing::pass_sequence(s, p) {
                 Pass::Over { next } => next,
                 Pass::Unread { refusal, place } => return Went::Stop { refusal, place },
             },

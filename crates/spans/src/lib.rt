@@ -102,7 +102,7 @@ fn pass(s: &[u8], at: usize, memo: &mut [u32]) -> Went
                     }
                     Role::Barred => return bodies::not_allowed(p),
                 },
-                Form::Sequence => match reader::passing::pass_sequence(s, p) {
+                Form::Sequence => match passing::pass_sequence(s, p) {
                     Pass::Over { next } => next,
                     Pass::Unread { refusal, place } => return Went::Stop { refusal, place },
                 },

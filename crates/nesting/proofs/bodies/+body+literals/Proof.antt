@@ -10,7 +10,7 @@ use borrow.Fn.Kinds.{In}
 use borrow.Fn.PlainCycle.{Measures, is, falls, and}
 use Rattle.tokens.specs.declared.Refusal.the-variants.{TooDeep}
 use Rattle.tokens.proofs.forms.form_at.Reads as form-at-reads
-use Rattle.reader.proofs.passing.pass_sequence.Reads as pass-sequence-reads
+use Rattle.passing.proofs.pass_sequence.Reads as pass-sequence-reads
 use Rattle.machine.proofs.Inside.{WentIn, due-inside, solid-past}
 use Rattle.machine.specs.Skeleton.{opening, solid, held}
 use Rattle.machine.specs.declared.Went.the-variants.{Past, Stop}

@@ -1,9 +1,9 @@
--- `passing::pass_of` meets its contract: the token, case by case. Assumes nothing.
+-- `pass_of` meets its contract: the token, case by case. Assumes nothing.
 use mathlib.Core.Path.{sym, ap}
 use borrow.Author.Needs.{needs}
 use Rattle.tokens.specs.Passing.{passOf}
-use Rattle.reader.proofs.passing.pass_of.Statement.{statement}
-use Rattle.reader.proofs.passing.pass_of.Tie as tie
+use Rattle.passing.proofs.pass_of.Statement.{statement}
+use Rattle.passing.proofs.pass_of.Tie as tie
 
 returns : tie.Need-returns
 unfolding passOf

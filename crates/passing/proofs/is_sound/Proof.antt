@@ -1,12 +1,12 @@
--- `passing::is_sound` meets its contract: type by type. Assumes nothing.
+-- `is_sound` meets its contract: type by type. Assumes nothing.
 use Rattle.tokens.proofs.OnePiece.{string-over, integer-over, rational-over, name-over, comment-over}
 use Rattle.tokens.proofs.Summaries.{part-length}
 use borrow.Author.Tests.{eqb-true}
 use native.Mathlib.Omega.{arith}
 use mathlib.Core.Path.{sym, _∙_}
 use borrow.Author.Needs.{needs}
-use Rattle.reader.proofs.passing.is_sound.Statement.{statement}
-use Rattle.reader.proofs.passing.is_sound.Tie as tie
+use Rattle.passing.proofs.is_sound.Statement.{statement}
+use Rattle.passing.proofs.is_sound.Tie as tie
 
 returns : tie.Need-returns
 returns c e at next = let a = c .before .before .before .args in string-over (a .k) (a .len) _ (part-length (a .s .now) (a .start) (a .len) (omega arith)) at next (c .before .if1 .taken) (sym (c .all-obey .ensures) ∙ e)

@@ -1,4 +1,4 @@
--- `passing::is_integer` meets its contract. Assumes nothing.
+-- `is_integer` meets its contract. Assumes nothing.
 use Rattle.tokens.proofs.OnePiece.{differs, integer-answered}
 use Rattle.tokens.proofs.Sizes.{integer-few}
 use lib.Seq.{slice}
@@ -9,8 +9,8 @@ use native.Mathlib.Omega.{arith}
 use mathlib.Core.Bool.{false≢true}
 use mathlib.Core.Path.{sym, _∙_}
 use borrow.Author.Needs.{needs}
-use Rattle.reader.proofs.passing.is_integer.Statement.{statement}
-use Rattle.reader.proofs.passing.is_integer.Tie as tie
+use Rattle.passing.proofs.is_integer.Statement.{statement}
+use Rattle.passing.proofs.is_integer.Tie as tie
 
 value-after-requires : tie.Need-value-after-requires
 value-after-requires c κs =

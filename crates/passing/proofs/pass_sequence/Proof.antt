@@ -1,4 +1,4 @@
--- `passing::pass_sequence` meets its contract: one piece that is sound, or the token as it is read. Assumes nothing.
+-- `pass_sequence` meets its contract: one piece that is sound, or the token as it is read. Assumes nothing.
 use Rattle.tokens.specs.declared.Piece.the-variants.{Data}
 use Rattle.tokens.specs.Passing.{passOf}
 use Rattle.tokens.proofs.OnePiece.{one-piece}
@@ -9,8 +9,8 @@ use borrow.Author.Tests.{not-true}
 use native.Mathlib.Omega.{arith}
 use mathlib.Core.Path.{_≡_, sym, ap, _∙_}
 use borrow.Author.Needs.{needs}
-use Rattle.reader.proofs.passing.pass_sequence.Statement.{statement}
-use Rattle.reader.proofs.passing.pass_sequence.Tie as tie
+use Rattle.passing.proofs.pass_sequence.Statement.{statement}
+use Rattle.passing.proofs.pass_sequence.Tie as tie
 
 add-next : tie.Need-add-next
 add-next c =

@@ -1,4 +1,4 @@
--- `passing::is_rational` meets its contract. Assumes nothing.
+-- `is_rational` meets its contract. Assumes nothing.
 use Rattle.tokens.proofs.OnePiece.{differs, rational-answered}
 use Rattle.tokens.proofs.Sizes.{rational-few}
 use Prim.Native.Nat.{ℕ, _/_}
@@ -8,8 +8,8 @@ use native.Mathlib.Omega.{arith}
 use mathlib.Core.Bool.{false≢true}
 use mathlib.Core.Path.{sym, _∙_}
 use borrow.Author.Needs.{needs}
-use Rattle.reader.proofs.passing.is_rational.Statement.{statement}
-use Rattle.reader.proofs.passing.is_rational.Tie as tie
+use Rattle.passing.proofs.is_rational.Statement.{statement}
+use Rattle.passing.proofs.is_rational.Tie as tie
 
 value-after-requires : tie.Need-value-after-requires
 value-after-requires c κs =

@@ -17,7 +17,7 @@ use Rattle.machine.specs.Page.{preambleEnd, preambleOf}
 use Rattle.machine.specs.Promise.{Loads, Runs, Reprints}
 use Rattle.machine.proofs.Verdicts.{bodiesIn, ran}
 use Rattle.machine.proofs.Theorems.{reprint-rows, run-rows-rest}
-use Rattle.book.proofs.Corrected.{done-tells, load-tells, runs-done, reprints-done}
+use Rattle.promises.proofs.Corrected.{done-tells, load-tells, runs-done, reprints-done}
 
 -- THEOREM (demand 3): the customer's page 40. A book has run in the table `rows`, and the rows that it left are kept. The corrected master
 -- loads with as many pages, its preamble has the same bytes, and so has every page but page k. Then, under the same allowance, with scratch

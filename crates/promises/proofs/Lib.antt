@@ -1,0 +1,3 @@
+-- The work, then the theorem. Assumes nothing.
+pub mod Corrected
+pub mod Theorems

@@ -1,0 +1,1 @@
+// The customer's theorem, over the promises of `load`, `run` and `reprint` taken together. No code.
