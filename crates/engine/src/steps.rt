@@ -223,7 +223,7 @@ fn pace<'a>(
 
 // ---- several steps
 
-// Literals of the running body in a row, as many as `swift` executes, at most so many.
+// Literals of the running body in a row, as many as `sprints` executes, at most so many.
 fn stretch<'a>(w: &mut [u8], r: Registers, pre: &'a [u8], body: &'a [u8], most: usize) -> Registers
     requires { ⌜ Good (now w) r × (0 < r .depth) × (r .skipping ≡ false) × (r .steps + most ≤ 1000000) × Short (now pre) (now body) ⌝ }
     ensures { λ q. ⌜ Sprinted (both (now (pre .entry)) (now (body .entry))) most (now (w .entry)) r (now (w .exit)) q ⌝ }

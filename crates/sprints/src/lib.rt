@@ -1,6 +1,6 @@
 // The literals that masters are mostly made of: numbers of two bytes, and the operators met most of those that leave cells and contexts as
 // they are; and longer numbers and names. Several in a row are executed here, the height of the stack in hand. Nothing here fails: what is
-// not done here is left undone, for `steps`.
+// not done here is left undone, for `engine`.
 ghost use mathlib.Core.Path.{_≡_};
 ghost use mathlib.Core.Bool.{true, false};
 ghost use Prim.Native.Nat.{ℕ, _+_, _<_, _≤_};
