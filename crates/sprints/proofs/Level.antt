@@ -28,36 +28,8 @@ use Rattle.state.proofs.Parts.{length-contexts, length-values}
 use Rattle.state.proofs.Ending.{not-on}
 use Rattle.effects.proofs.Acting.{beneath-few}
 use Rattle.sprints.specs.Swift.{raised, Stays, Flat}
-
--- ---- effects that make no cells, enter no body and place no mark
-
-abbrev flatWork : Work → Bool
-flatWork Nothing = true
-flatWork (Fetch j) = true
-flatWork (Element cell) = true
-flatWork (Build lower n) = false
-flatWork (Spell start) = false
-flatWork (Utter start len) = true
-flatWork (Compose start len) = false
-flatWork (Repeat n) = true
-flatWork (Turn n m) = true
-flatWork (Match v u) = true
-flatWork (Report v) = true
-
-abbrev flatNext : Next → Bool
-flatNext (Works x) = flatWork x
-flatNext (Inline start len owes) = false
-flatNext (Call origin start len first) = false
-flatNext (Store j) = true
-flatNext (Place n) = false
-flatNext (Remove n) = true
-flatNext Tally = true
-
-abbrev pub flat : Effect → Bool
-flat Fail = false
-flat (Gives a) = true
-flat (Gives2 a b) = true
-flat (Acts x) = flatNext x
+use Rattle.sprints.proofs.Flatness.{flatWork, flatNext, flat}
+use Rattle.sprints.proofs.Ahead.{execute-free}
 
 -- ---- the stack from its topmost mark on down
 
@@ -82,11 +54,17 @@ record Level (s t : State) : Type 0 where
   errors : t .errors ≡ s .errors
   low : length (beneath (t .stack)) ≤ length (beneath (s .stack))
   here : running (t .contexts) .origin ≡ running (s .contexts) .origin
+  ends : running (t .contexts) .end ≡ running (s .contexts) .end
 
 stored-here : (j : ℕ) (v : Value) (cs : List Context) → running (storeIn j v cs) .origin ≡ running cs .origin
 unfolding storeIn running
 stored-here j v [] = refl
 stored-here j v (c ∷ cs) = refl
+
+stored-ends : (j : ℕ) (v : Value) (cs : List Context) → running (storeIn j v cs) .end ≡ running cs .end
+unfolding storeIn running
+stored-ends j v [] = refl
+stored-ends j v (c ∷ cs) = refl
 
 stored-length : (j : ℕ) (v : Value) (cs : List Context) → length (storeIn j v cs) ≡ length cs
 unfolding storeIn
@@ -95,16 +73,16 @@ stored-length j v (c ∷ cs) = refl
 
 module _ (code : Code) (s : State) where
   level-same : OnSome (Level s) (limited s)
-  level-same = limited-on (Level s) s (λ h. record { contexts = refl; cells = refl; skipping = refl; steps = refl; errors = refl; low = omega arith; here = refl })
+  level-same = limited-on (Level s) s (λ h. record { contexts = refl; cells = refl; skipping = refl; steps = refl; errors = refl; low = omega arith; here = refl; ends = refl })
 
   level-push : (v : Value) → OnSome (Level s) (push v s)
   unfolding push beneath
-  level-push v = limited-on (Level s) _ (λ h. record { contexts = refl; cells = refl; skipping = refl; steps = refl; errors = refl; low = omega arith; here = refl })
+  level-push v = limited-on (Level s) _ (λ h. record { contexts = refl; cells = refl; skipping = refl; steps = refl; errors = refl; low = omega arith; here = refl; ends = refl })
 
   level-values : (vs : List Value) → OnSome (Level s) (limited (withValues vs (s .cells) s))
   level-values vs =
       let e : length (beneath (over vs (beneath (s .stack)))) ≡ length (beneath (s .stack)) = ap length (beneath-over vs (beneath (s .stack)) ∙ beneath-again (s .stack)) in
-      limited-on (Level s) _ (λ h. record { contexts = refl; cells = refl; skipping = refl; steps = refl; errors = refl; low = omega (arith, e); here = refl })
+      limited-on (Level s) _ (λ h. record { contexts = refl; cells = refl; skipping = refl; steps = refl; errors = refl; low = omega (arith, e); here = refl; ends = refl })
 
   level-worked : (x : Work) → flatWork x ≡ true → OnSome (Level s) (worked code x s)
   unfolding worked repeat turn
@@ -125,7 +103,7 @@ module _ (code : Code) (s : State) where
   level-stored j v =
       let vs = drop 1 (values s) in
       let e : length (beneath (over vs (beneath (s .stack)))) ≡ length (beneath (s .stack)) = ap length (beneath-over vs (beneath (s .stack)) ∙ beneath-again (s .stack)) in
-      limited-on (Level s) _ (λ h. record { contexts = stored-length j v (s .contexts); cells = refl; skipping = refl; steps = refl; errors = refl; low = omega (arith, e); here = stored-here j v (s .contexts) })
+      limited-on (Level s) _ (λ h. record { contexts = stored-length j v (s .contexts); cells = refl; skipping = refl; steps = refl; errors = refl; low = omega (arith, e); here = stored-here j v (s .contexts); ends = stored-ends j v (s .contexts) })
 
   level-removed : (id n : ℕ) (vs : List Value) (t : List Entry) → beneath (s .stack) ≡ t → OnSome (Level s) (removeAt id n vs t s)
   unfolding removeAt
@@ -134,7 +112,7 @@ module _ (code : Code) (s : State) where
   level-removed id n vs (mark k ∷ t) e =
       let a : length (beneath (s .stack)) ≡ suc (length t) = ap length e in
       let b : length (beneath (over vs t)) ≡ length (beneath t) = ap length (beneath-over vs t) in
-      provided-on _ _ _ (λ _. limited-on (Level s) _ (λ h. record { contexts = refl; cells = refl; skipping = refl; steps = refl; errors = refl; low = omega (arith, a, b, beneath-few t); here = refl }))
+      provided-on _ _ _ (λ _. limited-on (Level s) _ (λ h. record { contexts = refl; cells = refl; skipping = refl; steps = refl; errors = refl; low = omega (arith, a, b, beneath-few t); here = refl; ends = refl }))
 
   level-tallied : (id n : ℕ) (t : List Entry) → OnSome (Level s) (tallyAt id n t s)
   unfolding tallyAt
@@ -156,7 +134,7 @@ module _ (code : Code) (s : State) where
   unfolding affected push beneath
   level-affected Fail f = not-on f
   level-affected (Gives a) f = level-push _
-  level-affected (Gives2 a b) f = limited-on (Level s) _ (λ h. record { contexts = refl; cells = refl; skipping = refl; steps = refl; errors = refl; low = omega arith; here = refl })
+  level-affected (Gives2 a b) f = limited-on (Level s) _ (λ h. record { contexts = refl; cells = refl; skipping = refl; steps = refl; errors = refl; low = omega arith; here = refl; ends = refl })
   level-affected (Acts x) f = level-does x f
 
 -- values popped before
@@ -165,7 +143,7 @@ unfolding pops
 level-popped n s none h = tt
 level-popped n s (some t) h =
     let e : length (beneath (over (drop n (values s)) (beneath (s .stack)))) ≡ length (beneath (s .stack)) = ap length (beneath-over (drop n (values s)) (beneath (s .stack)) ∙ beneath-again (s .stack)) in
-    record { contexts = h .contexts; cells = h .cells; skipping = h .skipping; steps = h .steps; errors = h .errors; low = omega (arith, e, h .low); here = h .here }
+    record { contexts = h .contexts; cells = h .cells; skipping = h .skipping; steps = h .steps; errors = h .errors; low = omega (arith, e, h .low); here = h .here; ends = h .ends }
 
 level-execute : (code : Code) (x : Literal) (s : State) → flat (effectAt x s) ≡ true → OnSome (Level s) (execute code x s)
 unfolding execute
@@ -180,7 +158,7 @@ level-of : {s t : State} (o : Option State) → OnSome (Level s) o → o ≡ som
 level-of {s} o h e = rw e at h
 
 pub stays-none : {w w′ : List ℕ} {r : Registers} (h : ℕ) → 128 < h → Stays w r w′ h
-stays-none h more = record { low = λ k. absurd (omega arith); here = λ k. absurd (omega arith); keeps = λ k. absurd (omega arith) }
+stays-none h more = record { low = λ k. absurd (omega arith); here = λ k. absurd (omega arith); ends = λ k. absurd (omega arith); keeps = λ k. absurd (omega arith) }
 
 module _ {w w′ : List ℕ} {r : Registers} (code : Code) (x : Literal) (f : flat (effectAt x (abs w r)) ≡ true) where
   -- a height that is one
@@ -188,7 +166,7 @@ module _ {w w′ : List ℕ} {r : Registers} (code : Code) (x : Literal) (f : fl
   unfolding answer
   flat-made h few t =
       let l = level-of (execute code x (abs w r)) (level-execute code x (abs w r) f) (sym (t .does)) in
-      record { made = λ _. t; stays = record { low = λ _. l .low; here = λ _. l .here; keeps = λ _. t .keeps }; back = λ b. absurd (omega arith) }
+      record { made = λ _. t; stays = record { low = λ _. l .low; here = λ _. l .here; ends = λ _. l .ends; keeps = λ _. t .keeps }; back = λ b. absurd (omega arith); free = λ _ p n. execute-free code p n x (abs w r) f }
 
   by-ok : (h : ℕ) (p : Registers) (b : Bool) → p .ok ≡ b → (p .ok ≡ true → h ≡ p .height) × (p .ok ≡ false → h ≡ 129) → Tried (execute code x) w r w′ p → Flat (execute code x) w r w′ h
   unfolding answer
@@ -199,7 +177,7 @@ module _ {w w′ : List ℕ} {r : Registers} (code : Code) (x : Literal) (f : fl
       let used : p .used ≡ r .used = sym (length-values (slots w′) 728 (p .used)) ∙ l .cells ∙ length-values (slots w) 728 (r .used) in
       let e : p ≡ raised r h = registers-path r h (sym (a .0 o)) deep used (l .steps) (l .errors) (l .skipping) o in
       flat-made h (omega (arith, a .0 o, t .busy .stack-fits)) (rw e at t)
-  by-ok h p false o a t = record { made = λ b. absurd (omega (arith, a .1 o)); stays = stays-none h (omega (arith, a .1 o)); back = λ b. t .back o }
+  by-ok h p false o a t = record { made = λ b. absurd (omega (arith, a .1 o)); stays = stays-none h (omega (arith, a .1 o)); back = λ b. t .back o; free = λ b. absurd (omega (arith, a .1 o)) }
 
   -- the height that an operation answers
   pub flat-of : (h : ℕ) (p : Registers) → (p .ok ≡ true → h ≡ p .height) × (p .ok ≡ false → h ≡ 129) → Tried (execute code x) w r w′ p → Flat (execute code x) w r w′ h
@@ -207,7 +185,7 @@ module _ {w w′ : List ℕ} {r : Registers} (code : Code) (x : Literal) (f : fl
 
 -- nothing done
 pub flat-undone : {f : State → Option State} {w : List ℕ} {r : Registers} (h : ℕ) → 128 < h → Flat f w r w h
-flat-undone h more = record { made = λ b. absurd (omega arith); stays = stays-none h more; back = λ b. refl }
+flat-undone h more = record { made = λ b. absurd (omega arith); stays = stays-none h more; back = λ b. refl; free = λ b. absurd (omega arith) }
 
 -- what the height tells of an operation
 pub tells-on : (b : Bool) (h : ℕ) → b ≡ true → (b ≡ true → h ≡ h) × (b ≡ false → h ≡ 129)

@@ -5,15 +5,18 @@ use mathlib.Core.Path.{_≡_, refl, sym, ap, _∙_}
 use mathlib.Core.Bool.{Bool, true, false, cond, not, _&&_, _||_}
 use mathlib.Core.Logic.{inl, inr}
 use mathlib.Core.List.{List, [], _∷_}
-use mathlib.Core.Option.{Option, none, some}
+use mathlib.Core.Option.{none, some}
 use types.Run.{OneOf}
-use borrow.Author.Tests.{le-leb, eqb-true}
-use lib.Dec.{eqb}
+use borrow.Author.Tests.{le-leb, eqb-true, ltb-true, ltb-false}
+use lib.Dec.{eqb, ltb}
 use lib.IntN.{pos, _-ℤ_}
 use lib.ListN.{length, getD}
 use Rattle.numbers.specs.declared.Number as num
+use Rattle.numbers.specs.declared.Answer.{Answer}
+use Rattle.numbers.specs.declared.Answer.the-variants.{Is}
+use Rattle.numbers.specs.Arith.{sumOf, differenceOf, productOf, quotientOf}
 use Rattle.table.specs.declared.Slot.{Slot}
-use Rattle.table.specs.Slots.{slots, nil}
+use Rattle.table.specs.Slots.{slots}
 use Rattle.tokens.specs.declared.Read.the-variants as read
 use Rattle.tokens.specs.Format.{bias}
 use Rattle.tokens.specs.declared.Form.{Form}
@@ -26,7 +29,7 @@ use Rattle.machine.specs.declared.Role.the-variants as role
 use Rattle.machine.specs.declared.Literal.{Literal}
 use Rattle.machine.specs.declared.Literal.the-variants.{Figure, Name, Plain}
 use Rattle.machine.specs.declared.Effect.{Effect}
-use Rattle.machine.specs.declared.Effect.the-variants.{Acts}
+use Rattle.machine.specs.declared.Effect.the-variants.{Gives, Acts}
 use Rattle.machine.specs.declared.Next.the-variants.{Works, Remove, Tally}
 use Rattle.machine.specs.declared.Work.the-variants.{Nothing, Repeat, Turn}
 use Rattle.machine.specs.declared.Op.{Op}
@@ -35,33 +38,39 @@ use Rattle.machine.specs.declared.FrameOp.{FrameOp}
 use Rattle.machine.specs.declared.FrameOp.the-variants.{Fget, Fset}
 use Rattle.machine.specs.declared.CallOp.the-variants.{Do}
 use Rattle.machine.specs.declared.StackOp.the-variants.{Pop, Dup, Exch, Mark, Count, Nop}
-use Rattle.machine.specs.declared.ArithOp.{ArithOp}
+use Rattle.machine.specs.declared.TestOp.{TestOp}
+use Rattle.machine.specs.declared.TestOp.the-variants.{Eq, Gt, Ge, And, Or}
+use Rattle.machine.specs.declared.VectorOp.{VectorOp}
+use Rattle.machine.specs.declared.VectorOp.the-variants.{Get, Shape}
 use Rattle.machine.specs.declared.ArithOp.the-variants.{Add, Sub, Mul, Div}
-use Rattle.machine.specs.State.{Entry, Context, State, running}
+use Rattle.machine.specs.State.{State}
 use Rattle.machine.specs.State as state
 use Rattle.machine.specs.Skeleton.{holders, barred, oneOf, roleOf, solid}
-use Rattle.machine.specs.Literal.{Code, bytesOf, Found, foundBy, foundAt}
+use Rattle.machine.specs.Literal.{Code, Found, foundBy, foundAt}
 use Rattle.machine.specs.Operators.{opOf, opIn, operators, arityOf, effectOf, popped, performed}
 use Rattle.machine.specs.Ops.Frame.{frameArity, frameEffect}
 use Rattle.machine.specs.Ops.Stack.{stackArity, stackEffect}
-use Rattle.machine.specs.Ops.Arith.{arithArity, arithEffect}
-use Rattle.machine.specs.Contexts.{above, beneath, fault, settle}
+use Rattle.machine.specs.Operand.{asNumber, answered}
+use Rattle.machine.specs.Ops.Arith.{arithArity, ofTwo, arithEffect}
+use Rattle.machine.specs.Ops.Test.{testArity, testEffect}
+use Rattle.machine.specs.Ops.Vector.{vectorArity, vectorEffect}
+use Rattle.machine.specs.Contexts.{above, fault}
 use Rattle.machine.specs.Engine.{provided, pops, repeat, turn, worked, place, remove, tally, does, affected, push}
-use Rattle.machine.specs.Step.{effectAt, execute, executed, isUnmark0, literalStep, begunIn, begun, stepBy, dueIn, step, run, ended}
+use Rattle.machine.specs.Step.{effectAt, execute, executed, isUnmark0, literalStep, stepBy, dueIn, step, run, ended}
 use Rattle.machine.proofs.Inside.{token-inside}
 use Rattle.literals.specs.declared.Due.{Due}
 use Rattle.literals.specs.Dues as dues
 use Rattle.state.specs.declared.Registers.{Registers}
 use Rattle.state.specs.declared.Tops.{Tops}
-use Rattle.state.specs.Layout.{valueIn, stackOf, contextsOf, contextAt, contextIn, goesTo, aside, abs, Good, Busy, Done, answer, Tried, Begun, Topmost}
-use Rattle.state.proofs.Parts.{wide, contexts-top}
+use Rattle.state.specs.Layout.{valueIn, stackOf, contextsOf, abs, Good, Busy, answer, Tried, Begun, Topmost}
+use Rattle.state.proofs.Parts.{contexts-top}
 use Rattle.state.proofs.Cutting.{over-above}
 use Rattle.state.proofs.Trying.{trying, tried-as}
-use Rattle.contexts.proofs.Entering.{goes-home, goes-nowhere}
 use Rattle.state.proofs.Ending.{not-on}
-use Rattle.sprints.specs.Swift.{marked, raised, origin, Flat, stepped, Ready, Stays, Strode, Attempted, Sprinted}
+use Rattle.sprints.specs.Swift.{quiet, Flat, stepped, Ready, Attempted}
 use Rattle.effects.proofs.Acting.{nothing-done}
-use Rattle.sprints.proofs.Level.{flat, flat-made, flat-of}
+use Rattle.sprints.proofs.Flatness.{flat}
+use Rattle.sprints.proofs.Level.{flat-made, flat-of}
 use Rattle.effects.proofs.Executing.{busy-lower, plain-done, plain-effect}
 use Rattle.state.specs.Operations as table
 
@@ -135,30 +144,88 @@ op-role n o e k = pick (eqb n 107) refl (oneOf holders n) refl (oneOf barred n) 
 -- ---- operators by number
 
 -- the operators that have functions of their own
-pub by-number : (OnFrame Fget ≡ opOf 20) × (OnFrame Fset ≡ opOf 21) × (OnStack Pop ≡ opOf 180) × (OnStack Dup ≡ opOf 181) × (OnStack Count ≡ opOf 188) × (OnStack Nop ≡ opOf 1) × (Calls Do ≡ opOf 231) × (Reckons Add ≡ opOf 201) × (Reckons Div ≡ opOf 204) × (Reckons Mul ≡ opOf 210) × (Reckons Sub ≡ opOf 214) × (OnStack Mark ≡ opOf 186) × (OnStack Exch ≡ opOf 185)
+pub by-number : (OnFrame Fget ≡ opOf 20) × (OnFrame Fset ≡ opOf 21) × (OnStack Pop ≡ opOf 180) × (OnStack Dup ≡ opOf 181) × (OnStack Count ≡ opOf 188) × (OnStack Nop ≡ opOf 1) × (Calls Do ≡ opOf 231) × (Reckons Add ≡ opOf 201) × (Reckons Div ≡ opOf 204) × (Reckons Mul ≡ opOf 210) × (Reckons Sub ≡ opOf 214) × (OnStack Mark ≡ opOf 186) × (OnStack Exch ≡ opOf 185) × (Tests And ≡ opOf 202) × (Tests Eq ≡ opOf 205) × (Tests Ge ≡ opOf 207) × (Tests Gt ≡ opOf 208) × (Tests Or ≡ opOf 213) × (OnVectors Get ≡ opOf 17) × (OnVectors Shape ≡ opOf 285)
 unfolding opOf opIn operators
-by-number = (refl, refl, refl, refl, refl, refl, refl, refl, refl, refl, refl, refl, refl)
+by-number = (refl, refl, refl, refl, refl, refl, refl, refl, refl, refl, refl, refl, refl, refl, refl, refl, refl, refl, refl, refl)
 
 -- ADD, DIV, MUL, SUB
+module _ (n : ℕ) (a b : num.Number) (r : Answer) where
+  pub is-add : n ≡ 201 → r ≡ sumOf a b → answered r ≡ effectOf (opOf n) (Number b) (Number a)
+  unfolding effectOf arithEffect ofTwo asNumber
+  is-add e i = rw (e, ← (by-number .7), i)
+
+  pub is-div : n ≡ 204 → r ≡ quotientOf a b → answered r ≡ effectOf (opOf n) (Number b) (Number a)
+  unfolding effectOf arithEffect ofTwo asNumber
+  is-div e i = rw (e, ← (by-number .8), i)
+
+  pub is-mul : n ≡ 210 → r ≡ productOf a b → answered r ≡ effectOf (opOf n) (Number b) (Number a)
+  unfolding effectOf arithEffect ofTwo asNumber
+  is-mul e i = rw (e, ← (by-number .9), i)
+
+  pub is-sub : OneOf (201 ∷ 204 ∷ 210 ∷ 214 ∷ []) n → (n ≡ 201 → ⊥) → (n ≡ 204 → ⊥) → (n ≡ 210 → ⊥) → r ≡ differenceOf a b → answered r ≡ effectOf (opOf n) (Number b) (Number a)
+  unfolding effectOf arithEffect ofTwo asNumber
+  is-sub (inl e) f g h i = absurd (f e)
+  is-sub (inr (inl e)) f g h i = absurd (g e)
+  is-sub (inr (inr (inl e))) f g h i = absurd (h e)
+  is-sub (inr (inr (inr e))) f g h i = rw (e, ← (by-number .10), i)
+
+  -- the number that it gives
+  pub gives-number : (c : num.Number) (x y : Value) → r ≡ Is c → x ≡ Number b → y ≡ Number a → answered r ≡ effectOf (opOf n) (Number b) (Number a) → Gives c ≡ effectOf (opOf n) x y
+  unfolding answered
+  gives-number c x y e ex ey i = rw (ex, ey) (rw e at i)
+
+pub sums-two : (n : ℕ) → OneOf (201 ∷ 204 ∷ 210 ∷ 214 ∷ []) n → (2 ≡ arityOf (opOf n)) × (2 ≤ 2)
+unfolding arityOf arithArity
+sums-two n (inl e) = (rw (e, ← (by-number .7)), omega arith)
+sums-two n (inr (inl e)) = (rw (e, ← (by-number .8)), omega arith)
+sums-two n (inr (inr (inl e))) = (rw (e, ← (by-number .9)), omega arith)
+sums-two n (inr (inr (inr e))) = (rw (e, ← (by-number .10)), omega arith)
+
+sums-known : (n : ℕ) → OneOf (201 ∷ 204 ∷ 210 ∷ 214 ∷ []) n → known (opOf n) ≡ true
+sums-known n (inl e) = rw (e, ← (by-number .7))
+sums-known n (inr (inl e)) = rw (e, ← (by-number .8))
+sums-known n (inr (inr (inl e))) = rw (e, ← (by-number .9))
+sums-known n (inr (inr (inr e))) = rw (e, ← (by-number .10))
+
+-- AND, EQ, GE, GT, OR
 module _ (n : ℕ) where
-  pub is-add : n ≡ 201 → (Reckons Add ≡ opOf n) × (2 ≡ arityOf (Reckons Add))
-  unfolding arityOf arithArity
-  is-add e = (rw e (by-number .7), refl)
+  pub is-and : n ≡ 202 → (Tests And ≡ opOf n) × (2 ≡ arityOf (Tests And))
+  unfolding arityOf testArity
+  is-and e = (rw e (by-number .13), refl)
 
-  pub is-div : n ≡ 204 → (Reckons Div ≡ opOf n) × (2 ≡ arityOf (Reckons Div))
-  unfolding arityOf arithArity
-  is-div e = (rw e (by-number .8), refl)
+  pub is-eq : n ≡ 205 → (Tests Eq ≡ opOf n) × (2 ≡ arityOf (Tests Eq))
+  unfolding arityOf testArity
+  is-eq e = (rw e (by-number .14), refl)
 
-  pub is-mul : n ≡ 210 → (Reckons Mul ≡ opOf n) × (2 ≡ arityOf (Reckons Mul))
-  unfolding arityOf arithArity
-  is-mul e = (rw e (by-number .9), refl)
+  pub is-ge : n ≡ 207 → (Tests Ge ≡ opOf n) × (2 ≡ arityOf (Tests Ge))
+  unfolding arityOf testArity
+  is-ge e = (rw e (by-number .15), refl)
 
-  pub is-sub : OneOf (201 ∷ 204 ∷ 210 ∷ 214 ∷ []) n → (n ≡ 201 → ⊥) → (n ≡ 204 → ⊥) → (n ≡ 210 → ⊥) → (Reckons Sub ≡ opOf n) × (2 ≡ arityOf (Reckons Sub))
-  unfolding arityOf arithArity
-  is-sub (inl e) f g h = absurd (f e)
-  is-sub (inr (inl e)) f g h = absurd (g e)
-  is-sub (inr (inr (inl e))) f g h = absurd (h e)
-  is-sub (inr (inr (inr e))) f g h = (rw e (by-number .10), refl)
+  pub is-gt : n ≡ 208 → (Tests Gt ≡ opOf n) × (2 ≡ arityOf (Tests Gt))
+  unfolding arityOf testArity
+  is-gt e = (rw e (by-number .16), refl)
+
+  pub is-or : OneOf (202 ∷ 205 ∷ 207 ∷ 208 ∷ 213 ∷ []) n → (n ≡ 202 → ⊥) → (n ≡ 205 → ⊥) → (n ≡ 207 → ⊥) → (n ≡ 208 → ⊥) → (Tests Or ≡ opOf n) × (2 ≡ arityOf (Tests Or))
+  unfolding arityOf testArity
+  is-or (inl e) f g h i = absurd (f e)
+  is-or (inr (inl e)) f g h i = absurd (g e)
+  is-or (inr (inr (inl e))) f g h i = absurd (h e)
+  is-or (inr (inr (inr (inl e)))) f g h i = absurd (i e)
+  is-or (inr (inr (inr (inr e)))) f g h i = (rw e (by-number .17), refl)
+
+-- those five, as the code tells them: three one by one, and the two that lie side by side
+module _ (n : ℕ) where
+  pub of-three : OneOf (202 ∷ 205 ∷ 213 ∷ []) n → OneOf (202 ∷ 205 ∷ 207 ∷ 208 ∷ 213 ∷ []) n
+  of-three (inl e) = inl e
+  of-three (inr (inl e)) = inr (inl e)
+  of-three (inr (inr e)) = inr (inr (inr (inr e)))
+
+  pub of-two : 207 ≤ n → n < 209 → OneOf (202 ∷ 205 ∷ 207 ∷ 208 ∷ 213 ∷ []) n
+  of-two a b = pick (ltb n 208) refl
+    where
+      pick : (k : Bool) → ltb n 208 ≡ k → OneOf (202 ∷ 205 ∷ 207 ∷ 208 ∷ 213 ∷ []) n
+      pick true e = inr (inr (inl (omega (arith, ltb-true n 208 e))))
+      pick false e = inr (inr (inr (inl (omega (arith, ltb-false n 208 e)))))
 
 -- ---- what they do
 
@@ -172,9 +239,17 @@ module _ (e : Effect) (x y : Value) where
   unfolding effectOf
   by-frame k i = i
 
-  pub by-arith : (k : ArithOp) → e ≡ arithEffect k x y → e ≡ effectOf (Reckons k) x y
+  pub by-test : (k : TestOp) → e ≡ testEffect k x y → e ≡ effectOf (Tests k) x y
   unfolding effectOf
-  by-arith k i = i
+  by-test k i = i
+
+  pub by-vector : (k : VectorOp) → e ≡ vectorEffect k x y → e ≡ effectOf (OnVectors k) x y
+  unfolding effectOf
+  by-vector k i = i
+
+pub vector-arity : (k : VectorOp) (a : ℕ) → (a ≡ vectorArity k) × (a ≤ 2) → (a ≡ arityOf (OnVectors k)) × (a ≤ 2)
+unfolding arityOf
+vector-arity k a e = e
 
 pop-one : (1 ≡ arityOf (OnStack Pop)) × (1 ≤ 2)
 unfolding arityOf stackArity
@@ -259,6 +334,10 @@ is-nop {w} {r} code n g e =
     rw e
     (flat-made code (Plain 1) (once-flat 1 (Acts (Works Nothing)) (λ x y. own-part x y .2) (abs w r) refl) (r .height) (g .stack-fits) (at-once code 1 (Acts (Works Nothing)) (pops-none .2) (λ x y. own-part x y .2) (rests code (nothing-done code g refl))), λ _. op-role 1 (OnStack Nop) (by-number .5) refl)
 
+-- the same registers one by one
+quiet-is : (r : Registers) → r .skipping ≡ false → r .ok ≡ false → r ≡ quiet (r .height) (r .depth) (r .used) (r .steps) (r .errors)
+quiet-is r still undone = λ i. record { height = r .height; depth = r .depth; used = r .used; steps = r .steps; errors = r .errors; skipping = still i; ok = undone i }
+
 -- the others by number
 module _ {w w′ : List ℕ} {r : Registers} (code : Code) (n h : ℕ) where
   pub is-pop : n ≡ 180 → Flat (execute code (Plain 180)) w r w′ h → Flat (execute code (Plain n)) w r w′ h × (h ≤ 128 → roleOf n ≡ role.Plain)
@@ -274,8 +353,18 @@ module _ {w w′ : List ℕ} {r : Registers} (code : Code) (n h : ℕ) where
   pub is-fset : n ≡ 21 → ((c : Code) (m : ℕ) → OnFrame Fset ≡ opOf m → Flat (execute c (Plain m)) w r w′ h) → Flat (execute code (Plain n)) w r w′ h × (h ≤ 128 → roleOf n ≡ role.Plain)
   is-fset e t = by-op (OnFrame Fset) refl t (rw e (by-number .1))
 
-  pub is-reckon : (o : ArithOp) → Reckons o ≡ opOf n → ((c : Code) (m : ℕ) → Reckons o ≡ opOf m → Flat (execute c (Plain m)) w r w′ h) → Flat (execute code (Plain n)) w r w′ h × (h ≤ 128 → roleOf n ≡ role.Plain)
-  is-reckon o e t = by-op (Reckons o) refl t e
+  pub is-test : (o : TestOp) → Tests o ≡ opOf n → ((c : Code) (m : ℕ) → Tests o ≡ opOf m → Flat (execute c (Plain m)) w r w′ h) → Flat (execute code (Plain n)) w r w′ h × (h ≤ 128 → roleOf n ≡ role.Plain)
+  is-test o e t = by-op (Tests o) refl t e
+
+  module _ (still : r .skipping ≡ false) (undone : r .ok ≡ false) where
+    pub is-get : n ≡ 17 → ((c : Code) (m : ℕ) → OnVectors Get ≡ opOf m → Flat (execute c (Plain m)) w (quiet (r .height) (r .depth) (r .used) (r .steps) (r .errors)) w′ h) → Flat (execute code (Plain n)) w r w′ h × (h ≤ 128 → roleOf n ≡ role.Plain)
+    is-get e t = by-op (OnVectors Get) refl (λ c m i. rw (quiet-is r still undone) (t c m i)) (rw e (by-number .18))
+
+    pub is-shape : n ≡ 285 → ((c : Code) (m : ℕ) → OnVectors Shape ≡ opOf m → Flat (execute c (Plain m)) w (quiet (r .height) (r .depth) (r .used) (r .steps) (r .errors)) w′ h) → Flat (execute code (Plain n)) w r w′ h × (h ≤ 128 → roleOf n ≡ role.Plain)
+    is-shape e t = by-op (OnVectors Shape) refl (λ c m i. rw (quiet-is r still undone) (t c m i)) (rw e (by-number .19))
+
+  pub is-reckon : OneOf (201 ∷ 204 ∷ 210 ∷ 214 ∷ []) n → ((c : Code) → Flat (execute c (Plain n)) w r w′ h) → Flat (execute code (Plain n)) w r w′ h × (h ≤ 128 → roleOf n ≡ role.Plain)
+  is-reckon o t = (t code, λ _. op-role n (opOf n) refl (sums-known n o))
 
 -- ---- the literal at a place
 
@@ -304,47 +393,7 @@ found-due f d x i e = λ k. record { literal = (sym (i .literal) ∙ e) k; next 
 
 -- ---- a step but for the end of bodies
 
-begun-stack : (next : ℕ) (cs : List Context) (s : State) → begunIn next cs s .stack ≡ s .stack
-unfolding begunIn
-begun-stack next [] s = refl
-begun-stack next (c ∷ cs) s = refl
-
-begun-here : (next : ℕ) (cs : List Context) (s : State) → s .contexts ≡ cs → running (begunIn next cs s .contexts) .origin ≡ running cs .origin
-unfolding begunIn running
-begun-here next [] s e = rw e
-begun-here next (c ∷ cs) s e = refl
-
-pub place-is : (m : List Slot) (d at : ℕ) → 0 < d → at ≡ running (contextsOf m d) .at → at ≡ getD m (1752 + (d - 1)) nil .b
-unfolding running contextAt contextIn
-place-is m d at h e = rw (contexts-top m d h) at e
-
-module _ {w w₁ : List ℕ} {r q : Registers} {n : ℕ} (be : Begun n w r w₁ q) where
-  -- no mark came
-  pub marked-begun : marked w₁ (q .height) ≡ marked w (r .height)
-  unfolding begun
-  marked-begun = ap (λ (s : State). length (beneath (s .stack))) (be .does) ∙ ap (λ (l : List Entry). length (beneath l)) (begun-stack n (contextsOf (slots w) (r .depth)) (abs w r))
-
-  -- the same body runs
-  origin-begun : origin w₁ (q .depth) ≡ origin w (r .depth)
-  unfolding begun
-  origin-begun = ap (λ (s : State). running (s .contexts) .origin) (be .does) ∙ begun-here n (contextsOf (slots w) (r .depth)) (abs w r) refl
-
-  pub stays : {f : State → Option State} {w′ : List ℕ} (h : ℕ) → Flat f w₁ q w′ h → Stays w r w′ h
-  stays {f} {w′} h t =
-      let d : q .depth ≡ r .depth = ap (λ (x : Registers). x .depth) (be .registers) in
-      record {
-        low = λ few. omega (arith, t .stays .low few, marked-begun);
-        here = λ few. (rw d at (t .stays .here few)) ∙ (rw d at origin-begun);
-        keeps = λ few. t .stays .keeps few ∙ be .keeps;
-      }
-
 module _ {code : Code} {b w : List ℕ} {at : ℕ} {r : Registers} (ready : Ready code b at w r) where
-  pub strode-none : (h : ℕ) → 128 < h → Strode code at w r w h
-  strode-none h more = record {
-    does = λ k. absurd (omega arith);
-    back = λ k. goes-nowhere (slots w) (r .depth) at (place-is (slots w) (r .depth) at (ready .runs) (ready .place));
-  }
-
   module _ {w₁ : List ℕ} {q : Registers} (past n : ℕ) (en : n ≡ past) (be : Begun n w r w₁ q) where
     due-step : (x : Literal) → foundAt b at ≡ record { literal = x; next = past } → step code (abs w r) ≡ executed (abs w₁ q) (execute code x (abs w₁ q))
     unfolding step stepBy dueIn literalStep
@@ -370,25 +419,6 @@ module _ {code : Code} {b w : List ℕ} {at : ℕ} {r : Registers} (ready : Read
           ap fault e ∙ sym (due-step x found ∙ (rw (← d)));
     }
 
-    module _ {w′ : List ℕ} (x : Literal) (h : ℕ) (found : h ≤ 128 → foundAt b at ≡ record { literal = x; next = past }) (t : Flat (execute code x) w₁ q w′ h) where
-      strode-does : h ≤ 128 → settle (abs w′ (stepped r h)) ≡ step code (abs w r)
-      unfolding executed answer
-      strode-does few =
-          let d : some (abs w′ (raised q h)) ≡ execute code x (abs w₁ q) = t .made few .does in
-          let e : abs w′ (raised q h) ≡ abs w′ (stepped r h) = rw (be .registers) in
-          sym (due-step x (found few) ∙ (rw (← d, e)))
-
-      pub strode : Strode code at w r w′ h
-      strode =
-          let room = wide w (ready .good .room) in
-          record {
-            does = strode-does;
-            back =
-                λ more.
-                rw (t .back more, be .moves)
-                (goes-home (slots w) (r .depth) n at (omega (arith, room, ready .good .depth-fits, ready .runs)) (place-is (slots w) (r .depth) at (ready .runs) (ready .place)));
-          }
-
 -- ---- some steps at once
 
 pub not-ended : (m : List Slot) (d : ℕ) → 0 < d → ended (contextsOf m d) ≡ false
@@ -406,7 +436,7 @@ unfolding run
 last-by code n s true h e f = not-on (sym (rw h at e) ∙ h)
 last-by code n s false h e f = rw h (f (rw h at e))
 
-run-last : (code : Code) (n : ℕ) (s : State) → ended (run n code s .contexts) ≡ false → run (suc n) code s ≡ step code (run n code s)
+pub run-last : (code : Code) (n : ℕ) (s : State) → ended (run n code s .contexts) ≡ false → run (suc n) code s ≡ step code (run n code s)
 unfolding run
 run-last code zero s e = rw e
 run-last code (suc n) s e = last-by code n s (ended (s .contexts)) refl e (λ h. run-last code n (step code s) h)
@@ -432,65 +462,6 @@ pub none-run : (code : Code) (n : ℕ) (s : State) → run (n - n) code s ≡ s
 unfolding run
 none-run code n s = let z : n - n ≡ 0 = omega arith in rw z
 
--- so it is with the bytes of the running body
-pub ready-here : {code : Code} {b w : List ℕ} {r : Registers} (o at depth : ℕ) → Good w r → r .depth ≡ depth → 0 < depth → r .skipping ≡ false → r .steps < 4294967295 → b ≡ bytesOf code o → origin w depth ≡ o
-    → at ≡ running (contextsOf (slots w) depth) .at → Ready code b at w r
-ready-here o at depth g d h on few eb eo ea = record { good = g; runs = rw d h; executes = rw on; few = few; bytes = rw (d, eo) eb; place = rw d ea }
-
--- gone back
-pub undone : (m m′ m″ : List Slot) (depth d at start : ℕ) → m″ ≡ goesTo m′ depth start → d ≡ depth → at ≡ start → goesTo m′ d at ≡ m → m″ ≡ m
-undone m m′ m″ depth d at start p ed ea q = p ∙ (rw (ed, ea) at q)
-
-pub good-stepped : (w w′ : List ℕ) (r : Registers) (h : ℕ) → Good w r → length w′ ≡ length w → h ≤ 128 → Good w′ (stepped r h)
-good-stepped w w′ r h g long fits = record { room = omega (arith, g .room); stack-fits = fits; depth-fits = g .depth-fits; cells-fit = g .cells-fit; errors-fit = omega (arith, g .errors-fit) }
-
 -- the bounds hold whatever `ok` says
 pub good-as : {w : List ℕ} {r : Registers} (b : Bool) → Good w r → Good w (record { height = r .height; depth = r .depth; used = r .used; steps = r .steps; errors = r .errors; skipping = r .skipping; ok = b })
 good-as b g = record { room = g .room; stack-fits = g .stack-fits; depth-fits = g .depth-fits; cells-fit = g .cells-fit; errors-fit = g .errors-fit }
-
-module _ (code : Code) (w₀ w : List ℕ) (r₀ r : Registers) (most left : ℕ) (g : Good w r) (runs : 0 < r .depth) (on : r .skipping ≡ false)
-    (few : left ≤ most) (sum : r .steps + left ≡ r₀ .steps + most) (same : aside w ≡ aside w₀) (inv : run (most - left) code (abs w₀ r₀) ≡ abs w r) where
-  -- it ends here
-  pub sprint-stop : {w′ : List ℕ} → length w′ ≡ length w → slots w′ ≡ slots w → r .ok ≡ false → Sprinted code most w₀ r₀ w′ r
-  unfolding aside
-  sprint-stop {w′} long e o =
-      let z : r .steps - r₀ .steps ≡ most - left = omega arith in
-      record {
-        good = record { room = omega (arith, g .room); stack-fits = g .stack-fits; depth-fits = g .depth-fits; cells-fit = g .cells-fit; errors-fit = g .errors-fit };
-        runs = runs;
-        on = on;
-        keeps = rw e same;
-        since = omega arith;
-        within = omega arith;
-        some = λ h. not-on (sym o ∙ h);
-        counted = λ h. not-on (sym o ∙ h);
-        ends = λ h. not-on (sym o ∙ h);
-        does = λ h. rw (z, inv, e);
-      }
-
-  -- one more, whether or not the body goes on
-  module _ {w′ : List ℕ} (at h : ℕ) (more : 0 < left) (fits : h ≤ 128) (t : Strode code at w r w′ h) where
-    one-more : run (most - (left - 1)) code (abs w₀ r₀) ≡ settle (abs w′ (stepped r h))
-    one-more =
-        let z : most - (left - 1) ≡ suc (most - left) = omega arith in
-        rw (z, run-next code (most - left) (abs w₀ r₀) w r inv runs) (sym (t .does fits))
-
-    pub sprint-on : (r′ : Registers) → r′ ≡ record { height = h; depth = r .depth; used = r .used; steps = r .steps + 1; errors = r .errors; skipping = false; ok = r .ok } → Done settle w′ (stepped r h) w′ r′
-        → run (most - (left - 1)) code (abs w₀ r₀) ≡ abs w′ (stepped r h)
-    sprint-on r′ e d = one-more ∙ (sym (d .does) ∙ (rw (e, on)))
-
-    pub sprint-ends : length w′ ≡ length w → aside w′ ≡ aside w → Sprinted code most w₀ r₀ w′ (record { height = h; depth = r .depth; used = r .used; steps = r .steps + 1; errors = r .errors; skipping = r .skipping; ok = true })
-    sprint-ends long kept =
-        let z : r .steps + 1 - r₀ .steps ≡ most - (left - 1) = omega arith in
-        record {
-          good = good-as _ (good-stepped w w′ r h g long fits);
-          runs = runs;
-          on = on;
-          keeps = kept ∙ same;
-          since = omega arith;
-          within = omega arith;
-          some = λ k. omega arith;
-          counted = λ k. omega (arith, g .errors-fit);
-          ends = λ k. rw z one-more;
-          does = λ k. not-on (sym k);
-        }

@@ -3,17 +3,22 @@
 use Prim.Native.Nat.{ℕ, _+_, _-_, _≤_, _<_}
 use mathlib.Core.Path.{_≡_}
 use mathlib.Core.Bool.{true, false, not, _&&_}
-use mathlib.Core.List.{List}
-use mathlib.Core.Option.{Option}
+use mathlib.Core.List.{List, [], _∷_}
+use mathlib.Core.Option.{Option, none, some}
 use lib.ListN.{length}
 use Rattle.table.specs.Slots.{slots}
 use Rattle.machine.specs.Limits.{mostEntries}
-use Rattle.machine.specs.State.{State, running}
-use Rattle.machine.specs.Literal.{Code, bytesOf}
+use Rattle.tokens.specs.Token.{tokenAt}
+use Rattle.machine.specs.State.{Context, State, running}
+use Rattle.machine.specs.Skeleton.{solid}
+use Rattle.machine.specs.Literal.{Code, bytesOf, foundAt}
 use Rattle.machine.specs.Contexts.{beneath, fault, settle}
-use Rattle.machine.specs.Step.{isUnmark0, dueIn, step, run}
+use Rattle.machine.specs.Step.{execute, isUnmark0, dueIn, step, run}
+use Rattle.machine.proofs.Comments.{NoComment}
+use Rattle.sprints.specs.declared.Stride.{Stride}
+use Rattle.sprints.specs.declared.Reach.{Reach}
 use Rattle.state.specs.declared.Registers.{Registers}
-use Rattle.state.specs.Layout.{goesTo, stackOf, contextsOf, aside, abs, Good, Busy, Tried}
+use Rattle.state.specs.Layout.{stackOf, contextsOf, aside, abs, Good, Busy, Tried}
 
 -- ---- one literal
 
@@ -25,21 +30,44 @@ marked w height = length (beneath (stackOf (slots w) height))
 abbrev pub raised : Registers → ℕ → Registers
 raised r h = record { height = h; depth = r .depth; used = r .used; steps = r .steps; errors = r .errors; skipping = r .skipping; ok = true }
 
+-- registers within a row of literals
+abbrev pub quiet : ℕ → ℕ → ℕ → ℕ → ℕ → Registers
+quiet height depth used steps errors = record { height = height; depth = depth; used = used; steps = steps; errors = errors; skipping = false; ok = false }
+
 -- the origin of the running body, where there are so many contexts
 abbrev pub origin : List ℕ → ℕ → ℕ
 origin w depth = running (contextsOf (slots w) depth) .origin
 
--- marks stand no higher than before, the same body runs, and the frame kept aside is as it was
+-- where that body ends
+abbrev pub ending : List ℕ → ℕ → ℕ
+ending w depth = running (contextsOf (slots w) depth) .end
+
+-- marks stand no higher than before, the same body runs up to the same end, and the frame kept aside is as it was
 pub record Stays (w : List ℕ) (r : Registers) (w′ : List ℕ) (h : ℕ) : Type 0 where
   pub low : h ≤ mostEntries → marked w′ h ≤ marked w (r .height)
   pub here : h ≤ mostEntries → origin w′ (r .depth) ≡ origin w (r .depth)
+  pub ends : h ≤ mostEntries → ending w′ (r .depth) ≡ ending w (r .depth)
   pub keeps : h ≤ mostEntries → aside w′ ≡ aside w
 
--- what means f done within a step: it leaves the stack h high
+-- the contexts cs, but that the running one goes on at p
+unfoldable pub movedTo : ℕ → List Context → List Context
+movedTo p [] = []
+movedTo p (c ∷ cs) = record { id = c .id; origin = c .origin; at = p; end = c .end; owes = c .owes; frame = c .frame } ∷ cs
+
+-- the state s, but that the running body goes on at p, and n steps are counted: what a row of literals has not yet put into the table
+abbrev pub ahead : ℕ → ℕ → State → State
+ahead p n s = record { stack = s .stack; contexts = movedTo p (s .contexts); frame = s .frame; cells = s .cells; skipping = s .skipping; steps = n; errors = s .errors }
+
+unfoldable pub onto : ℕ → ℕ → Option State → Option State
+onto p n none = none
+onto p n (some s) = some (ahead p n s)
+
+-- what means f done within a step: it leaves the stack h high, whatever the place and the steps
 pub record Flat (f : State → Option State) (w : List ℕ) (r : Registers) (w′ : List ℕ) (h : ℕ) : Type 0 where
   pub made : h ≤ mostEntries → Tried f w r w′ (raised r h)
   pub stays : Stays w r w′ h
   pub back : mostEntries < h → w′ ≡ w
+  pub free : h ≤ mostEntries → (p n : ℕ) → f (ahead p n (abs w r)) ≡ onto p n (f (abs w r))
 
 -- the registers after a step that leaves the stack so high
 abbrev pub stepped : Registers → ℕ → Registers
@@ -58,11 +86,6 @@ pub record Ready (code : Code) (b : List ℕ) (at : ℕ) (w : List ℕ) (r : Reg
   pub bytes : b ≡ bytesOf code (origin w (r .depth))
   pub place : at ≡ running (contextsOf (slots w) (r .depth)) .at
 
--- a step but for the end of bodies, of the literal at `at`
-pub record Strode (code : Code) (at : ℕ) (w : List ℕ) (r : Registers) (w′ : List ℕ) (h : ℕ) : Type 0 where
-  pub does : h ≤ mostEntries → settle (abs w′ (stepped r h)) ≡ step code (abs w r)
-  pub back : mostEntries < h → goesTo (slots w′) (r .depth) at ≡ slots w
-
 -- a literal tried within a step; `ok` says whether it was executed
 pub record Attempted (code : Code) (w : List ℕ) (r : Registers) (w′ : List ℕ) (r′ : Registers) : Type 0 where
   pub busy : Busy w′ r′
@@ -72,6 +95,28 @@ pub record Attempted (code : Code) (w : List ℕ) (r : Registers) (w′ : List �
   pub fails : r′ .ok ≡ false → fault (abs w′ (stepped r (r .height))) ≡ step code (abs w r)
 
 -- ---- several
+
+-- the literal at `at` of the bytes b done, but for its place and its step; where nothing was done, nothing is said of it
+pub record Strides (b : List ℕ) (at : ℕ) (w : List ℕ) (r : Registers) (w′ : List ℕ) (t : Stride) : Type 0 where
+  pub stays : Stays w r w′ (t .height)
+  pub back : mostEntries < t .height → w′ ≡ w
+  pub token : t .height ≤ mostEntries → NoComment (tokenAt b at)
+  pub next : t .height ≤ mostEntries → foundAt b at .next ≡ solid b (t .next)
+  pub inside : t .height ≤ mostEntries → t .next ≤ length b
+  pub does : t .height ≤ mostEntries → (code : Code) → Flat (execute code (foundAt b at .literal)) w r w′ (t .height)
+
+-- the registers r with another height
+abbrev pub lifted : Registers → ℕ → Registers
+lifted r h = record { height = h; depth = r .depth; used = r .used; steps = r .steps; errors = r .errors; skipping = r .skipping; ok = r .ok }
+
+-- a row of literals from `at` on, at most so many, after n steps: where it has come to, but for the place, the steps and the end of bodies
+pub record Rowed (code : Code) (b : List ℕ) (at n most : ℕ) (w : List ℕ) (r : Registers) (w′ : List ℕ) (t : Reach) : Type 0 where
+  pub fits : t .height ≤ mostEntries
+  pub keeps : aside w′ ≡ aside w
+  pub long : length w′ ≡ length w
+  pub ends : ending w′ (r .depth) ≡ ending w (r .depth)
+  pub idle : t .left ≡ most → (w′ ≡ w) × (t .height ≡ r .height)
+  pub does : t .left < most → run (most - t .left) code (ahead at n (abs w r)) ≡ settle (ahead (solid b (t .at)) (n + (most - t .left)) (abs w′ (lifted r (t .height))))
 
 -- some steps, at most so many; `ok`: the last but for the end of bodies
 pub record Sprinted (code : Code) (most : ℕ) (w : List ℕ) (r : Registers) (w′ : List ℕ) (r′ : Registers) : Type 0 where

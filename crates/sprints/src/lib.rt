@@ -9,21 +9,40 @@ ghost use types.Run.{OneOf};
 ghost use mathlib.Core.List.{[], _∷_};
 ghost use Rattle.machine.specs.declared.Literal.the-variants.{Plain};
 ghost use Rattle.machine.specs.declared.Role.the-variants as role;
-ghost use Rattle.machine.specs.declared.Op.the-variants.{OnFrame, Reckons};
+ghost use Rattle.machine.specs.declared.Op.the-variants.{OnVectors, OnFrame, Tests};
+ghost use Rattle.machine.specs.declared.Value.the-variants as value;
 ghost use Rattle.machine.specs.Skeleton.{roleOf};
-ghost use Rattle.machine.specs.Operators.{opOf, arityOf};
+ghost use Rattle.machine.specs.Operators.{opOf, arityOf, effectOf};
+ghost use Rattle.machine.specs.Operand.{answered};
 ghost use Rattle.machine.specs.Literal.{Code, bytesOf};
 ghost use Rattle.machine.specs.Step.{execute};
 ghost use Rattle.state.specs.Layout.{Good, Busy};
-ghost use Rattle.sprints.specs.Swift.{marked, origin, Flat, Ready, Stays, Strode, Sprinted};
-use machine::ArithOp;
+ghost use Rattle.sprints.specs.Swift.{marked, origin, ending, quiet, Flat, Strides, Rowed, Sprinted};
 use machine::Effect;
 use machine::FrameOp;
 use machine::Literal;
 use machine::Next;
+use machine::TestOp;
+use machine::Value;
+use machine::VectorOp;
 use machine::Work;
+use numbers::Answer;
+use numbers::Number;
 use state::Registers;
 use tokens::Form;
+
+// What a literal leaves: the height of the stack, and where the next token stands.
+pub struct Stride {
+    pub height: usize,
+    pub next: usize,
+}
+
+// Where a row of literals has come to: the height of the stack, the steps that are left, the place.
+pub struct Reach {
+    pub height: usize,
+    pub left: usize,
+    pub at: usize,
+}
 
 // More than the stack can hold: nothing was done.
 const UNDONE: usize = 129;
@@ -81,22 +100,60 @@ fn pop(w: &[u8], r: Registers) -> usize
     r.height - 1
 }
 
-// ADD, DIV, MUL and SUB
-fn two_numbers(n: u16) -> ArithOp
+// ADD, DIV, MUL and SUB of a and b, which was pushed last.
+fn two_numbers(n: u16, a: Number, b: Number) -> Answer
     requires { ⌜ OneOf (201 ∷ 204 ∷ 210 ∷ 214 ∷ []) n ⌝ }
-    ensures { λ r. ⌜ (Reckons r ≡ opOf n) × (2 ≡ arityOf (Reckons r)) ⌝ }
+    ensures { λ r. ⌜ answered r ≡ effectOf (opOf n) (value.Number b) (value.Number a) ⌝ }
 {
     match n {
-        201 => ArithOp::Add,
-        204 => ArithOp::Div,
-        210 => ArithOp::Mul,
-        _ => ArithOp::Sub,
+        201 => arithmetic::sum(a, b),
+        204 => arithmetic::quotient(a, b),
+        210 => arithmetic::product(a, b),
+        _ => arithmetic::difference(a, b),
     }
 }
 
-fn reckon(w: &mut [u8], r: Registers, o: ArithOp) -> usize
-    requires { ⌜ Busy (now w) r × (2 ≡ arityOf (Reckons o)) ⌝ }
-    ensures { λ h. ⌜ ((code : Code) (n : ℕ) → Reckons o ≡ opOf n → Flat (execute code (Plain n)) (now (w .entry)) r (now (w .exit)) h) ⌝ }
+fn reckon(w: &mut [u8], r: Registers, n: u16) -> usize
+    requires { ⌜ Busy (now w) r × OneOf (201 ∷ 204 ∷ 210 ∷ 214 ∷ []) n ⌝ }
+    ensures { λ h. ⌜ ((code : Code) → Flat (execute code (Plain n)) (now (w .entry)) r (now (w .exit)) h) ⌝ }
+{
+    let t = state::stack::tops(w, r.height);
+    if t.count < 2 {
+        return UNDONE;
+    }
+    match state::values::value_of(t.first) {
+        Value::Number(b) => match state::values::value_of(t.second) {
+            Value::Number(a) => {
+                let mut q = r;
+                q.height = r.height - 2;
+                match two_numbers(n, a, b) {
+                    Answer::Is(c) => height_of(state::stack::push_number(w, q, c)),
+                    _ => UNDONE,
+                }
+            }
+            _ => UNDONE,
+        },
+        _ => UNDONE,
+    }
+}
+
+// AND, EQ, GE, GT and OR
+fn two_values(n: u16) -> TestOp
+    requires { ⌜ OneOf (202 ∷ 205 ∷ 207 ∷ 208 ∷ 213 ∷ []) n ⌝ }
+    ensures { λ r. ⌜ (Tests r ≡ opOf n) × (2 ≡ arityOf (Tests r)) ⌝ }
+{
+    match n {
+        202 => TestOp::And,
+        205 => TestOp::Eq,
+        207 => TestOp::Ge,
+        208 => TestOp::Gt,
+        _ => TestOp::Or,
+    }
+}
+
+fn test(w: &mut [u8], r: Registers, o: TestOp) -> usize
+    requires { ⌜ Busy (now w) r × (2 ≡ arityOf (Tests o)) ⌝ }
+    ensures { λ h. ⌜ ((code : Code) (n : ℕ) → Tests o ≡ opOf n → Flat (execute code (Plain n)) (now (w .entry)) r (now (w .exit)) h) ⌝ }
 {
     let t = state::stack::tops(w, r.height);
     if t.count < 2 {
@@ -104,7 +161,7 @@ fn reckon(w: &mut [u8], r: Registers, o: ArithOp) -> usize
     }
     let x = state::values::value_of(t.first);
     let y = state::values::value_of(t.second);
-    let e = reckoning::arith::effect(o, x, y);
+    let e = operators::test::effect(o, x, y);
     let mut q = r;
     q.height = r.height - 2;
     match e {
@@ -113,9 +170,56 @@ fn reckon(w: &mut [u8], r: Registers, o: ArithOp) -> usize
     }
 }
 
+// GET and SHAPE. The registers come one by one: as a struct they would go through memory at every literal of a row.
+fn look(
+    w: &mut [u8],
+    height: usize,
+    depth: usize,
+    used: usize,
+    steps: usize,
+    errors: usize,
+    o: VectorOp,
+) -> usize
+    requires { ⌜ Busy (now w) (quiet height depth used steps errors) ⌝ }
+    ensures { λ h. ⌜ ((code : Code) (n : ℕ) → OnVectors o ≡ opOf n → Flat (execute code (Plain n)) (now (w .entry)) (quiet height depth used steps errors) (now (w .exit)) h) ⌝ }
+{
+    let a = reckoning::vector::arity(o);
+    let t = state::stack::tops(w, height);
+    if a > t.count {
+        return UNDONE;
+    }
+    let x = state::values::value_of(t.first);
+    let y = state::values::value_of(t.second);
+    let e = reckoning::vector::effect(o, x, y);
+    let q = Registers {
+        height: height - a,
+        depth,
+        used,
+        steps,
+        errors,
+        skipping: false,
+        ok: false,
+    };
+    match e {
+        Effect::Gives2(a, b) => height_of(state::stack::push_two(w, q, a, b)),
+        Effect::Acts(next) => match next {
+            Next::Works(k) => match k {
+                Work::Element { cell } => height_of(store::cells::element(
+                    w,
+                    q,
+                    table::words::size(cell),
+                )),
+                _ => UNDONE,
+            },
+            _ => UNDONE,
+        },
+        _ => UNDONE,
+    }
+}
+
 // An operator. No mark stands at the height `clear` or above.
 fn operate(w: &mut [u8], r: Registers, n: u16, clear: usize) -> usize
-    requires { ⌜ Busy (now w) r × (marked (now w) (r .height) ≤ clear) ⌝ }
+    requires { ⌜ Busy (now w) r × (r .skipping ≡ false) × (r .ok ≡ false) × (marked (now w) (r .height) ≤ clear) ⌝ }
     ensures { λ h. ⌜ ((code : Code) → Flat (execute code (Plain n)) (now (w .entry)) r (now (w .exit)) h × (h ≤ 128 → roleOf n ≡ role.Plain)) ⌝ }
 {
     match n {
@@ -126,57 +230,141 @@ fn operate(w: &mut [u8], r: Registers, n: u16, clear: usize) -> usize
         181 => height_of(state::stack::repeat(w, r, 1)),
         185 => height_of(state::stack::exchange(w, r)),
         188 => height_of(marks::tally(w, r, clear)),
-        201 | 204 | 210 | 214 => reckon(w, r, two_numbers(n)),
+        201 | 204 | 210 | 214 => reckon(w, r, n),
+        202 | 205 | 207 | 208 | 213 => test(w, r, two_values(n)),
+        17 => look(
+            w,
+            r.height,
+            r.depth,
+            r.used,
+            r.steps,
+            r.errors,
+            VectorOp::Get,
+        ),
+        285 => look(
+            w,
+            r.height,
+            r.depth,
+            r.used,
+            r.steps,
+            r.errors,
+            VectorOp::Shape,
+        ),
         _ => UNDONE,
     }
 }
 
 // ---- several in a row
 
-// A number or a name.
-fn sequence(w: &mut [u8], r: Registers, b: &[u8], at: usize) -> usize
-    requires { ⌜ (length (now b) ≤ 16777215) × Good (now w) r × (0 < r .depth) × (r .steps < 4294967295) × ((at < length (now b)) × (192 ≤ getD (now b) at 0)) ⌝ }
-    ensures { λ h. ⌜ Stays (now (w .entry)) r (now (w .exit)) h × ((code : Code) → Ready code (now (b .entry)) at (now (w .entry)) r → Strode code at (now (w .entry)) r (now (w .exit)) h) ⌝ }
+fn undone(at: usize) -> Stride
+    ensures { λ t. ⌜ t ≡ record { height = 129; next = at } ⌝ }
 {
+    Stride {
+        height: UNDONE,
+        next: at,
+    }
+}
+
+// A number or a name.
+fn sequence(w: &mut [u8], r: Registers, b: &[u8], at: usize) -> Stride
+    requires { ⌜ (length (now b) ≤ 16777215) × Busy (now w) r × ((at < length (now b)) × (192 ≤ getD (now b) at 0)) ⌝ }
+    ensures { λ t. ⌜ Strides (now (b .entry)) at (now (w .entry)) r (now (w .exit)) t ⌝ }
+{
+    if !nesting::bodies::is_solid(b, at) {
+        return undone(at);
+    }
     let d = literals::reading::due_sequence(b, at);
     let x = d.literal;
     match x {
         Literal::Figure(a) => {
-            let q = contexts::bodies::begin(w, r, table::words::word(d.next));
-            height_of(state::stack::push_number(w, q, a))
+            let height = height_of(state::stack::push_number(w, r, a));
+            Stride {
+                height,
+                next: d.next,
+            }
         }
         Literal::Name { start, len } => {
-            let q = contexts::bodies::begin(w, r, table::words::word(d.next));
-            height_of(state::stack::push_name(w, q, start, len))
+            let height = height_of(state::stack::push_name(w, r, start, len));
+            Stride {
+                height,
+                next: d.next,
+            }
         }
-        _ => UNDONE,
+        _ => undone(at),
     }
 }
 
-// The literal at `at`; of two bytes or less only if no comment follows it. If it is left undone, the running context may have gone past it.
-fn literal(w: &mut [u8], r: Registers, b: &[u8], at: usize, clear: usize) -> usize
-    requires { ⌜ (length (now b) ≤ 16777215) × Good (now w) r × (0 < r .depth) × (r .steps < 4294967295) × (marked (now w) (r .height) ≤ clear) ⌝ }
-    ensures { λ h. ⌜ Stays (now (w .entry)) r (now (w .exit)) h × ((code : Code) → Ready code (now (b .entry)) at (now (w .entry)) r → Strode code at (now (w .entry)) r (now (w .exit)) h) ⌝ }
+// The literal at `at`. At a comment nothing is done.
+fn literal(w: &mut [u8], r: Registers, b: &[u8], at: usize, clear: usize) -> Stride
+    requires { ⌜ (length (now b) ≤ 16777215) × Busy (now w) r × (r .skipping ≡ false) × (r .ok ≡ false) × (marked (now w) (r .height) ≤ clear) ⌝ }
+    ensures { λ t. ⌜ Strides (now (b .entry)) at (now (w .entry)) r (now (w .exit)) t ⌝ }
 {
     match tokens::forms::form_at(b, at) {
         Form::Number { raw, next } => {
-            if nesting::bodies::is_solid(b, next) {
-                let q = contexts::bodies::begin(w, r, table::words::word(next));
-                let a = reader::reading::short_value(raw);
-                return height_of(state::stack::push_number(w, q, a));
-            }
-            UNDONE
+            let a = reader::reading::short_value(raw);
+            let height = height_of(state::stack::push_number(w, r, a));
+            Stride { height, next }
         }
         Form::Operator { number, next } => {
-            if nesting::bodies::is_solid(b, next) {
-                let q = contexts::bodies::begin(w, r, table::words::word(next));
-                return operate(w, q, number, clear);
-            }
-            UNDONE
+            let height = operate(w, r, number, clear);
+            Stride { height, next }
         }
         Form::Sequence => sequence(w, r, b, at),
-        Form::Cut => UNDONE,
+        Form::Cut => undone(at),
     }
+}
+
+// Literals from `at` on, as long as they can be executed here and the running body, which ends at `end`, goes on. Place and steps are not yet
+// put into the table. No mark stands at the height `clear` or above.
+fn row(
+    w: &mut [u8],
+    start: Registers,
+    b: &[u8],
+    at: usize,
+    end: usize,
+    most: usize,
+    clear: usize,
+) -> Reach
+    requires { ⌜ (length (now b) ≤ 16777215) × Busy (now w) start × (start .skipping ≡ false) × (start .ok ≡ false) × (end ≡ ending (now w) (start .depth)) × (marked (now w) (start .height) ≤ clear) ⌝ }
+    ensures { λ t. ⌜ (t .left ≤ most) × (t .left < most → t .at ≤ length (now (b .entry))) × ((code : Code) (n : ℕ) → now (b .entry) ≡ bytesOf code (origin (now (w .entry)) (start .depth)) → Rowed code (now (b .entry)) at n most (now (w .entry)) start (now (w .exit)) t) ⌝ }
+{
+    let mut r = start;
+    let mut p = at;
+    let mut left = most;
+    while left > 0 {
+        let t = literal(w, r, b, p, clear);
+        if t.height > 128 {
+            return Reach {
+                height: r.height,
+                left,
+                at: p,
+            };
+        }
+        r.height = t.height;
+        p = t.next;
+        left -= 1;
+        if p >= end {
+            return Reach {
+                height: r.height,
+                left,
+                at: p,
+            };
+        }
+    }
+    Reach {
+        height: r.height,
+        left,
+        at: p,
+    }
+}
+
+// Where the running body ends.
+fn end_of(w: &[u8], depth: usize) -> u32
+    requires { ⌜ (0 < depth) × (depth ≤ 12) × (48000 ≤ length (now w)) ⌝ }
+    ensures { λ r. ⌜ r ≡ ending (now (w .entry)) depth ⌝ }
+{
+    let c = table::slots::get(w, 1752 + (depth - 1));
+    c.c
 }
 
 // Literals of the running body, whose bytes are b, as long as they can be executed here and the body goes on. `ok` says that the last one
@@ -186,25 +374,29 @@ pub fn sprint(w: &mut [u8], start: Registers, b: &[u8], most: usize) -> Register
     ensures { λ q. ⌜ ((code : Code) → now (b .entry) ≡ bytesOf code (origin (now (w .entry)) (start .depth)) → Sprinted code most (now (w .entry)) start (now (w .exit)) q) ⌝ }
 {
     let depth = start.depth;
-    let clear = start.height;
+    let c = contexts::bodies::running(w, depth);
+    let end = table::words::size(end_of(w, depth));
     let mut r = start;
+    r.steps = start.steps + 1;
     r.ok = false;
-    let mut left = most;
-    while left > 0 {
-        let c = contexts::bodies::running(w, depth);
-        let h = literal(w, r, b, table::words::size(c.start), clear);
-        if h > 128 {
-            contexts::bodies::go_to(w, depth, c.start);
-            return r;
-        }
-        r.height = h;
-        r.steps += 1;
-        left -= 1;
-        if recovery::ends::goes_on(w, r, depth) {
-            continue;
-        }
-        r.ok = true;
-        return r;
+    let t = row(
+        w,
+        r,
+        b,
+        table::words::size(c.start),
+        end,
+        most,
+        start.height,
+    );
+    let mut q = start;
+    q.ok = false;
+    if t.left == most {
+        return q;
     }
-    r
+    q.height = t.height;
+    q.steps = start.steps + (most - t.left);
+    let p = nesting::bodies::past_comments(b, t.at);
+    contexts::bodies::go_to(w, depth, table::words::word(p));
+    q.ok = p >= end;
+    q
 }

@@ -1,7 +1,8 @@
 -- `operate` meets its contract. Assumes nothing.
-use Rattle.sprints.proofs.Level.{flat-undone}
 use native.Mathlib.Omega.{arith}
-use Rattle.sprints.proofs.Swiftly.{is-nop, is-fget, is-fset, is-pop, is-dup, is-exch, is-count, is-reckon}
+use mathlib.Core.Logic.{⊎-elim}
+use Rattle.sprints.proofs.Level.{flat-undone}
+use Rattle.sprints.proofs.Swiftly.{of-three, of-two, is-nop, is-fget, is-fset, is-pop, is-dup, is-exch, is-count, is-reckon, is-test, is-get, is-shape}
 use borrow.Author.Needs.{needs}
 use Rattle.sprints.proofs.operate.Statement.{statement}
 use Rattle.sprints.proofs.operate.Tie as tie
@@ -19,8 +20,11 @@ operate-spec =
     (λ c κs. search needs)
     (λ c κs. search needs)
     (λ c κs. search needs)
-    (λ c κs. c .before .match .keys8)
-    (λ c κs. (c .before .before .before .before .pre .0, c .two-numbers .ensures .1))
+    (λ c κs. search needs)
+    (λ c κs. search needs)
+    (λ c κs. search needs)
+    (λ c κs. ⊎-elim (λ k. of-three _ (k .keys9)) (λ k. of-two _ (k .1 .left) (k .2 .taken)) (c .before .match .came))
+    (λ c κs. search needs)
     (λ c. λ code. is-nop code _ (c .before .before .pre .0) (c .match .keys1))
     (λ c. search needs)
     (λ c. λ code. is-fget code _ _ (c .before .before .before .before .match .keys2) (c .before .before .framed .ensures))
@@ -35,5 +39,12 @@ operate-spec =
     (λ c. search needs)
     (λ c. λ code. is-count code _ _ _ (c .height-of3 .ensures) (c .before .before .before .before .before .match .keys7) (c .before .before .before .tally .ensures))
     (λ c. search needs)
-    (λ c. λ code. is-reckon code _ _ _ (c .before .before .before .two-numbers .ensures .0) (c .before .before .reckon .ensures))
-    (λ c. λ code. (flat-undone _ (omega arith), λ h. absurd (omega arith))))
+    (λ c. λ code. is-reckon code _ _ (c .before .before .before .before .match .keys8) (c .before .before .reckon .ensures))
+    (λ c. search needs)
+    (λ c. λ code. is-get code _ _ (c .before .before .before .before .before .before .pre .1) (c .before .before .before .before .before .before .pre .2) (c .before .before .before .before .match .keys10) (c .before .before .look .ensures))
+    (λ c. search needs)
+    (λ c. λ code. is-shape code _ _ (c .before .before .before .before .before .before .pre .1) (c .before .before .before .before .before .before .pre .2) (c .before .before .before .before .match .keys11) (c .before .before .look2 .ensures))
+    (λ c. λ code. (flat-undone _ (omega arith), λ h. absurd (omega arith)))
+    (λ c. λ code. (flat-undone _ (omega arith), λ h. absurd (omega arith)))
+    (λ c. search needs)
+    (λ c. λ code. is-test code _ _ _ (c .before .before .before .two-values .ensures .0) (c .before .before .test .ensures)))

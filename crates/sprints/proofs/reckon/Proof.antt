@@ -1,12 +1,12 @@
 -- `reckon` meets its contract. Assumes nothing.
-use Rattle.sprints.proofs.Level.{flat-undone}
-use Rattle.sprints.proofs.Swiftly.{by-arith}
-use Rattle.effects.proofs.Acting.{is-gives}
-use Rattle.state.proofs.Stacking.{tops-fit}
-use Rattle.sprints.proofs.Swiftly.{plain-flat}
-use Rattle.machine.specs.declared.Op.the-variants.{Reckons}
-use mathlib.Core.Path.{refl}
 use native.Mathlib.Omega.{arith}
+use mathlib.Core.Path.{refl}
+use Rattle.machine.specs.Operators.{opOf}
+use Rattle.sprints.proofs.Level.{flat-undone}
+use Rattle.sprints.proofs.Swiftly.{gives-number, sums-two, plain-flat}
+use Rattle.state.proofs.Stacking.{tops-fit}
+use Rattle.effects.proofs.Executing.{busy-lower}
+use Rattle.effects.proofs.Acting.{is-gives}
 use borrow.Author.Needs.{needs}
 use Rattle.sprints.proofs.reckon.Statement.{statement}
 use Rattle.sprints.proofs.reckon.Tie as tie
@@ -17,15 +17,21 @@ reckon-spec =
     (tie.spec
     (λ c κs. search needs)
     (λ c. search needs)
-    (λ c. λ code n i. flat-undone _ (omega arith))
-    (λ c κs. search needs)
-    (λ c κs. search needs)
-    (λ c κs. search needs)
-    (λ c. tops-fit _ _ _ _ (c .before .before .before .before .before .before .tops .ensures) (c .before .before .before .before .if1 .left))
-    (λ c. search needs)
-    (λ c κs. search needs)
+    (λ c. λ code. flat-undone _ (omega arith))
     (λ c κs. search needs)
     (λ c. search needs)
-    (λ c. λ code n i. plain-flat code n 2 (Reckons (c .before .before .before .before .before .before .before .before .before .before .before .before .before .before .before .before .before .args .o)) _ (c .before .before .before .before .before .before .before .before .before .before .before .before .before .before .before .before .before .pre .0) i (c .before .before .before .before .before .before .before .before .before .before .before .before .before .before .before .before .before .pre .1, omega arith) (c .before .before .before .before .before .before .before .before .before .before .before .before .before .before .tops .ensures) _ _ _ (c .before .before .before .before .before .before .before .before .before .before .before .before .if1 .left) (c .before .before .before .before .before .before .before .before .before .before .before .value-of .ensures) (c .before .before .before .before .before .before .before .before .before .before .value-of2 .ensures) (by-arith _ _ _ (c .before .before .before .before .before .before .before .before .before .before .before .before .before .before .before .before .before .args .o) (c .before .before .before .before .before .before .before .before .before .effect .ensures .0)) refl (is-gives code _ _ (c .before .before .before .before .before .before .e .given .1) (c .before .before .before .push-number .ensures)) _ (rw (c .before .before .before .before .before .before .e .given .1)) (c .height-of .ensures))
+    (λ c κs. search needs)
     (λ c. search needs)
-    (λ c. λ code n i. flat-undone _ (omega arith)))
+    (λ c. tops-fit _ _ _ _ (c .before .before .before .before .before .before .before .before .before .before .before .tops .ensures) (c .before .before .before .before .before .before .before .before .before .if1 .left))
+    (λ c κs. search needs)
+    (λ c. search needs)
+    (λ c κs. busy-lower 2 (c .before .before .before .before .before .before .before .before .before .before .before .before .before .before .before .before .before .before .before .pre .0) refl)
+    (λ c κs. search needs)
+    (λ c. search needs)
+    (λ c. λ code. plain-flat code _ 2 (opOf (c .before .before .before .before .before .before .before .before .before .before .before .before .before .before .before .before .before .before .before .before .before .before .before .args .n)) _ (c .before .before .before .before .before .before .before .before .before .before .before .before .before .before .before .before .before .before .before .before .before .before .before .pre .0) refl (sums-two _ (c .before .before .before .before .before .before .before .before .before .before .before .before .before .before .before .before .before .before .before .before .before .before .before .pre .1)) (c .before .before .before .before .before .before .before .before .before .before .before .before .before .before .before .before .before .before .before .before .tops .ensures) _ _ _ (c .before .before .before .before .before .before .before .before .before .before .before .before .before .before .before .before .before .before .if1 .left) (c .before .before .before .before .before .before .before .before .before .before .before .before .before .before .before .before .before .value-of .ensures) (c .before .before .before .before .before .before .before .before .before .before .before .before .before .value-of2 .ensures) (gives-number _ _ _ _ _ _ _ (c .before .before .before .before .before .before .c .given .1) (c .before .before .before .before .before .before .before .before .before .before .before .before .before .before .before .b .given .1) (c .before .before .before .before .before .before .before .before .before .before .before .a .given .1) (c .before .before .before .before .before .before .before .before .two-numbers .ensures)) refl (is-gives code _ _ refl (c .before .before .before .push-number .ensures)) _ refl (c .height-of .ensures))
+    (λ c. search needs)
+    (λ c. λ code. flat-undone _ (omega arith))
+    (λ c. search needs)
+    (λ c. λ code. flat-undone _ (omega arith))
+    (λ c. search needs)
+    (λ c. λ code. flat-undone _ (omega arith)))

@@ -1,4 +1,5 @@
 -- `two_numbers` meets its contract. Assumes nothing.
+use borrow.Author.Needs.{needs}
 use Rattle.sprints.proofs.Swiftly.{is-add, is-div, is-mul, is-sub}
 use Rattle.sprints.proofs.two_numbers.Statement.{statement}
 use Rattle.sprints.proofs.two_numbers.Tie as tie
@@ -7,7 +8,11 @@ pub two-numbers-spec : {M : Type 1} → statement M
 two-numbers-spec =
     tie.close
     (tie.spec
-    (λ c. is-add _ (c .match .keys1))
-    (λ c. is-div _ (c .match .keys2))
-    (λ c. is-mul _ (c .match .keys3))
-    (λ c. is-sub _ (c .before .pre) (c .match .rest .0 .0 .1) (c .match .rest .0 .1) (c .match .rest .1)))
+    (λ c κs. search needs)
+    (λ c κs. search needs)
+    (λ c κs. search needs)
+    (λ c κs. search needs)
+    (λ c. is-add _ _ _ _ (c .before .match .keys1) (c .sum .ensures))
+    (λ c. is-div _ _ _ _ (c .before .match .keys2) (c .quotient .ensures))
+    (λ c. is-mul _ _ _ _ (c .before .match .keys3) (c .product .ensures))
+    (λ c. is-sub _ _ _ _ (c .before .before .pre) (c .before .match .rest .0 .0 .1) (c .before .match .rest .0 .1) (c .before .match .rest .1) (c .difference .ensures)))
