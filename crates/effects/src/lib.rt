@@ -1,7 +1,7 @@
 // What an operator asks for, done on the state in the lent table.
 ghost use mathlib.Core.Path.{_≡_};
 ghost use Prim.Native.Nat.{ℕ, _+_, _<_};
-ghost use mathlib.Core.Bool.{cond, true};
+ghost use mathlib.Core.Bool.{cond, true, false};
 ghost use mathlib.Core.List.{List};
 ghost use Rattle.tokens.specs.Text.{lowered};
 ghost use Rattle.machine.specs.declared.Work.the-variants.{Match, Report};
@@ -13,6 +13,7 @@ ghost use Rattle.operands.specs.Sizes.{SizedWork, SizedNext, Sized};
 ghost use Rattle.state.specs.Layout.{Busy, Tried};
 ghost use Rattle.names.specs.Names.{both, dataAt};
 ghost use Rattle.origins.specs.Bodies.{Short};
+ghost use Rattle.effects.specs.Calls.{Enters};
 use machine::Effect;
 use machine::Next;
 use machine::Work;
@@ -54,8 +55,54 @@ pub fn inline<'a>(
     contexts::bodies::inline(w, r, table::words::word(at), start + len, owes)
 }
 
+// The body of an operator as it is entered, from `at` to `end`. `there`: it stands in the bytes of its origin, and the frame that it keeps in
+// the cells.
+pub struct Callee {
+    pub there: bool,
+    pub at: u32,
+    pub end: u32,
+}
+
+fn no_callee() -> Callee
+    ensures { λ k. ⌜ k ≡ record { there = false; at = 0; end = 0 } ⌝ }
+{
+    Callee {
+        there: false,
+        at: 0,
+        end: 0,
+    }
+}
+
+pub fn callee_of<'a>(
+    used: usize,
+    pre: &'a [u8],
+    body: &'a [u8],
+    origin: u32,
+    start: u32,
+    len: u32,
+    first: u32,
+) -> Callee
+    requires { ⌜ Short (now pre) (now body) ⌝ }
+    ensures { λ k. ⌜ Enters (both (now (pre .entry)) (now (body .entry))) used origin start len first k ⌝ }
+{
+    if table::words::size(first) + 50 > used {
+        return no_callee();
+    }
+    let end = table::words::size(start) + table::words::size(len);
+    let b = origins::bytes_of(pre, body, origin);
+    if end > b.len() {
+        return no_callee();
+    }
+    let at = nesting::bodies::past_comments(b, table::words::size(start));
+    Callee {
+        there: true,
+        at: table::words::word(at),
+        end: table::words::word(end),
+    }
+}
+
 // The body of an operator entered with the frame that it keeps.
-pub fn call<'a>(
+fn call<'a>(
     w: &mut [u8],
     r: Registers,
     pre: &'a [u8],
@@ -68,24 +115,11 @@ pub fn call<'a>(
     requires { ⌜ Busy (now w) r × Short (now pre) (now body) ⌝ }
     ensures { λ q. ⌜ Tried (call (both (now (pre .entry)) (now (body .entry))) origin start len first) (now (w .entry)) r (now (w .exit)) q ⌝ }
 {
-    let f = table::words::size(first);
-    if f + 50 > r.used {
-        return state::stack::failed(r);
+    let k = callee_of(r.used, pre, body, origin, start, len, first);
+    if k.there {
+        return contexts::bodies::call(w, r, origin, k.at, k.end, table::words::size(first));
     }
-    let end = table::words::size(start) + table::words::size(len);
-    let b = origins::bytes_of(pre, body, origin);
-    if end > b.len() {
-        return state::stack::failed(r);
-    }
-    let at = nesting::bodies::past_comments(b, table::words::size(start));
-    contexts::bodies::call(
-        w,
-        r,
-        origin,
-        table::words::word(at),
-        table::words::word(end),
-        f,
-    )
+    state::stack::failed(r)
 }
 
 // Where a value's text stands: of an identifier its token, of other values nowhere.

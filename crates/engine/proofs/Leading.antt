@@ -1,4 +1,4 @@
--- Steps of a run. In order: DO and MARK; a step; some steps, and a run of them. Assumes nothing.
+-- Steps of a run. In order: MARK; a step; some steps, and a run of them. Assumes nothing.
 use Prim.Native.Nat.{ℕ, suc, _+_, _-_, _≤_, _<_}
 use native.Mathlib.Omega.{arith}
 use mathlib.Core.Path.{_≡_, refl, sym, _∙_}
@@ -42,8 +42,9 @@ use Rattle.state.specs.Layout.{valueIn, stackOf, contextsOf, aside, abs, Good, 
 use Rattle.state.proofs.Trying.{trying, failed}
 use Rattle.state.proofs.Ending.{not-on}
 use Rattle.origins.specs.Bodies.{Short}
-use Rattle.sprints.specs.Swift.{origin, stepped, Executes, Ready, Attempted, Sprinted}
-use Rattle.engine.specs.Steps.{Stepped, Led, Onward}
+use Rattle.sprints.specs.Swift.{stepped, Executes, Ready, Attempted}
+use Rattle.rides.specs.Rides.{Led}
+use Rattle.engine.specs.Steps.{Stepped, Onward}
 use Rattle.origins.proofs.ByOrigin.{bytes-short}
 use Rattle.effects.proofs.Acting.{is-acts, by-call, by-place}
 use Rattle.effects.proofs.Executing.{plain-few, plain-done, plain-fails}
@@ -51,33 +52,6 @@ use Rattle.sprints.proofs.Swiftly.{by-number, run-next, run-both, good-as}
 
 pub bytes-fit : (pre body b : List ℕ) {at : ℕ} {w : List ℕ} {r : Registers} → Ready (both pre body) b at w r → Short pre body → length b ≤ 16777215
 bytes-fit pre body b {at} {w} {r} ready short = rw (ready .bytes) (bytes-short pre body (running (contextsOf (slots w) (r .depth)) .origin) short)
-
--- ---- DO
-
-do-one : (1 ≡ arityOf (Calls Do)) × (1 ≤ 2)
-unfolding arityOf
-do-one = (refl, omega arith)
-
-calls-nothing : (x y : Value) → OneOf (0 ∷ 1 ∷ 2 ∷ []) (tagOf the-type x) → Fail ≡ effectOf (Calls Do) x y
-unfolding effectOf callEffect called
-calls-nothing x y h = no-operator x _ h
-
-do-call : (o s l f : ℕ) (x y : Value) → x ≡ Operator o s l f → Acts (Call o s l f) ≡ effectOf (Calls Do) x y
-unfolding effectOf callEffect called asOperator
-do-call o s l f x y e = rw e
-
-module _ {w : List ℕ} {r : Registers} (code : Code) (t : Tops) (g : Busy w r) (et : Topmost (above (stackOf (slots w) (r .height))) t) where
-  pub do-few : {r′ : Registers} → t .count < 1 → r′ ≡ failed r → Tried (execute code (Plain 231)) w r w r′
-  do-few {r′} h q = plain-few code 231 1 (Calls Do) t g (by-number .6) do-one et h q
-
-  module _ (h : 1 ≤ t .count) (x : Value) (ex : x ≡ valueIn (t .first)) where
-    pub do-made : {w′ : List ℕ} {q r′ : Registers} (o s l f : ℕ) → x ≡ Operator o s l f → q ≡ trying r (r .height - 1) (r .depth) (r .used) (r .ok) → Tried (call code o s l f) w q w′ r′ → Tried (execute code (Plain 231)) w r w′ r′
-    do-made {w′} {q} {r′} o s l f e eq d =
-        plain-done code 231 1 (Calls Do) t g (by-number .6) do-one et x (valueIn (t .second)) (Acts (Call o s l f)) h ex refl (do-call o s l f x (valueIn (t .second)) e) eq (is-acts code (Acts (Call o s l f)) (Call o s l f) refl (by-call code (Call o s l f) o s l f refl d))
-
-    pub do-fails : {r′ : Registers} → OneOf (0 ∷ 1 ∷ 2 ∷ []) (tagOf the-type x) → r′ ≡ failed r → Tried (execute code (Plain 231)) w r w r′
-    do-fails {r′} bad q =
-        plain-fails code 231 1 (Calls Do) t g (by-number .6) do-one et x (valueIn (t .second)) h ex refl (calls-nothing x (valueIn (t .second)) bad) q
 
 -- ---- MARK
 
@@ -122,39 +96,6 @@ module _ {w w₁ : List ℕ} {r p : Registers} (pre body : List ℕ) (t : Attemp
   pace-faults o d = record { good = d .good; does = d .does ∙ t .fails o; keeps = d .keeps ∙ t .keeps; counted = d .counted }
 
 -- ---- a run, some steps at a time
-
-module _ {code : Code} {w w₁ : List ℕ} {r q : Registers} (most : ℕ) (t : Sprinted code most w r w₁ q) where
-  -- a row that has ended its body
-  pub led-ends : {w′ : List ℕ} (r′ p : Registers) → q .ok ≡ true → Done settle w₁ q w′ p → r′ ≡ record { height = p .height; depth = p .depth; used = p .used; steps = p .steps; errors = p .errors; skipping = p .skipping; ok = false } → Led code most w r w′ r′
-  led-ends {w′} r′ p o d e =
-      rw e
-      (record {
-        good = good-as _ (d .good);
-        does = (rw (d .counted) (t .ends o)) ∙ sym (d .does);
-        keeps = d .keeps ∙ t .keeps;
-        since = omega (arith, d .counted, t .since);
-        within = omega (arith, d .counted, t .within);
-        some = λ _. omega (arith, d .counted, t .some o);
-        more = λ h. not-on h;
-        runs = λ h. not-on h;
-        executes = λ h. not-on h;
-      })
-
-  -- one that has not
-  pub led-stops : (r′ : Registers) (b : Bool) → q .ok ≡ false → 0 < most → b ≡ ltb (q .steps) (r .steps + most) → r′ ≡ record { height = q .height; depth = q .depth; used = q .used; steps = q .steps; errors = q .errors; skipping = q .skipping; ok = b } → Led code most w r w₁ r′
-  led-stops r′ b o m eb e =
-      rw e
-      (record {
-        good = good-as _ (t .good);
-        does = t .does o;
-        keeps = t .keeps;
-        since = t .since;
-        within = t .within;
-        some = λ h. let l = ltb-false (q .steps) (r .steps + most) (sym eb ∙ h) in omega (arith, t .within);
-        more = λ h. ltb-true (q .steps) (r .steps + most) (sym eb ∙ h);
-        runs = λ h. t .runs;
-        executes = λ h. rw (t .on);
-      })
 
 -- the step is the same whatever `ok` says
 pub quiet : {pre body w w′ : List ℕ} {r r′ : Registers} → Stepped pre body w r w′ r′ → Stepped pre body w r w′ (record { height = r′ .height; depth = r′ .depth; used = r′ .used; steps = r′ .steps; errors = r′ .errors; skipping = r′ .skipping; ok = false })

@@ -36,18 +36,6 @@ pub record Ran (pre body : List ℕ) (allowance : ℕ) (w : List ℕ) (r : Regis
 
 -- ---- several
 
--- some steps, at most so many; `ok`: then there is room for one more, and its literal is not passed over
-pub record Led (code : Code) (most : ℕ) (w : List ℕ) (r : Registers) (w′ : List ℕ) (r′ : Registers) : Type 0 where
-  pub good : Good w′ r′
-  pub does : run (r′ .steps - r .steps) code (abs w r) ≡ abs w′ r′
-  pub keeps : aside w′ ≡ aside w
-  pub since : r .steps ≤ r′ .steps
-  pub within : r′ .steps ≤ r .steps + most
-  pub some : r′ .ok ≡ false → r .steps < r′ .steps
-  pub more : r′ .ok ≡ true → r′ .steps < r .steps + most
-  pub runs : r′ .ok ≡ true → 0 < r′ .depth
-  pub executes : r′ .ok ≡ true → Executes code (abs w′ r′)
-
 -- some steps, at most so many
 pub record Onward (code : Code) (most : ℕ) (w : List ℕ) (r : Registers) (w′ : List ℕ) (r′ : Registers) : Type 0 where
   pub good : Good w′ r′

@@ -8,12 +8,11 @@ ghost use Rattle.machine.specs.Step.{execute, run};
 ghost use Rattle.names.specs.Names.{both};
 ghost use Rattle.state.specs.Layout.{abs, Good, Busy, Tried};
 ghost use Rattle.origins.specs.Bodies.{Short, Noting};
-ghost use Rattle.engine.specs.Steps.{SizedLiteral, Stepped, Ran};
-ghost use Rattle.sprints.specs.Swift.{Executes, Ready, Attempted, Sprinted};
-ghost use Rattle.engine.specs.Steps.{Led, Onward};
+ghost use Rattle.engine.specs.Steps.{SizedLiteral, Stepped, Ran, Onward};
+ghost use Rattle.sprints.specs.Swift.{Executes, Ready, Attempted};
+ghost use Rattle.rides.specs.Rides.{Led};
 use machine::Literal;
 use machine::Op;
-use machine::Value;
 use operands::Card;
 use spans::WORDS;
 use state::Registers;
@@ -95,30 +94,6 @@ fn mark(w: &mut [u8], r: Registers) -> Registers
     }
 }
 
-// DO: the operator on top of the stack is called.
-fn run_operator<'a>(w: &mut [u8], r: Registers, pre: &'a [u8], body: &'a [u8]) -> Registers
-    requires { ⌜ Busy (now w) r × Short (now pre) (now body) ⌝ }
-    ensures { λ q. ⌜ Tried (execute (both (now (pre .entry)) (now (body .entry))) (Plain 231)) (now (w .entry)) r (now (w .exit)) q ⌝ }
-{
-    let t = state::stack::tops(w, r.height);
-    if t.count < 1 {
-        return state::stack::failed(r);
-    }
-    match state::values::value_of(t.first) {
-        Value::Operator {
-            origin,
-            start,
-            len,
-            first,
-        } => {
-            let mut q = r;
-            q.height = r.height - 1;
-            effects::call(w, q, pre, body, origin, start, len, first)
-        }
-        _ => state::stack::failed(r),
-    }
-}
-
 // An operator without a body.
 fn operator<'a>(w: &mut [u8], r: Registers, pre: &'a [u8], body: &'a [u8], n: u16) -> Registers
     requires { ⌜ Busy (now w) r × Short (now pre) (now body) ⌝ }
@@ -127,7 +102,6 @@ fn operator<'a>(w: &mut [u8], r: Registers, pre: &'a [u8], body: &'a [u8], n: u1
     match n {
         186 => afresh(mark(w, afresh(r))),
         192 => marks::remove(w, r, 0),
-        231 => afresh(run_operator(w, afresh(r), pre, body)),
         _ => match numbering::op_of(n) {
             Op::OnVectors(k) => afresh(families::on_vectors(w, afresh(r), pre, body, k)),
             Op::Tests(k) => afresh(families::on_tests(w, afresh(r), pre, body, k)),
@@ -223,16 +197,6 @@ fn pace<'a>(
 
 // ---- several steps
 
-// Literals of the running body in a row, as many as `sprints` executes, at most so many.
-fn stretch<'a>(w: &mut [u8], r: Registers, pre: &'a [u8], body: &'a [u8], most: usize) -> Registers
-    requires { ⌜ Good (now w) r × (0 < r .depth) × (r .skipping ≡ false) × (r .steps + most ≤ 1000000) × Short (now pre) (now body) ⌝ }
-    ensures { λ q. ⌜ Sprinted (both (now (pre .entry)) (now (body .entry))) most (now (w .entry)) r (now (w .exit)) q ⌝ }
-{
-    let c = contexts::bodies::running(w, r.depth);
-    let b = origins::bytes_of(pre, body, c.origin);
-    sprints::sprint(w, r, b, most)
-}
-
 // Literals of the running body passed over, up to UNMARK0.
 fn pass<'a>(w: &mut [u8], start: Registers, pre: &'a [u8], body: &'a [u8], most: usize) -> Registers
     requires { ⌜ Good (now w) start × (0 < start .depth) × (start .skipping ≡ true) × (0 < most) × (start .steps + most ≤ 1000000) × Short (now pre) (now body) ⌝ }
@@ -263,22 +227,22 @@ fn pass<'a>(w: &mut [u8], start: Registers, pre: &'a [u8], body: &'a [u8], most:
 }
 
 // Steps up to a literal that wants a step of its own.
-fn lead<'a>(w: &mut [u8], r: Registers, pre: &'a [u8], body: &'a [u8], most: usize) -> Registers
-    requires { ⌜ Good (now w) r × (0 < r .depth) × (0 < most) × (r .steps + most ≤ 1000000) × Short (now pre) (now body) ⌝ }
-    ensures { λ q. ⌜ Led (both (now (pre .entry)) (now (body .entry))) most (now (w .entry)) r (now (w .exit)) q ⌝ }
+fn lead<'a>(
+    w: &mut [u8],
+    r: Registers,
+    pre: &'a [u8],
+    body: &'a [u8],
+    early: &mut [u32],
+    notes: &mut [u32],
+    most: usize,
+) -> Registers
+    requires { ⌜ Good (now w) r × (0 < r .depth) × (0 < most) × (r .steps + most ≤ 1000000) × Short (now pre) (now body) × Noting (now pre) (now body) (now early) (now notes) ⌝ }
+    ensures { λ q. ⌜ Led (both (now (pre .entry)) (now (body .entry))) most (now (w .entry)) r (now (w .exit)) q × Noting (now (pre .entry)) (now (body .entry)) (now (early .exit)) (now (notes .exit)) ⌝ }
 {
     if r.skipping {
         return pass(w, r, pre, body, most);
     }
-    let p = stretch(w, r, pre, body, most);
-    if p.ok {
-        let mut q = afresh(recovery::ends::settle(w, p));
-        q.ok = false;
-        return q;
-    }
-    let mut q = p;
-    q.ok = p.steps < r.steps + most;
-    q
+    rides::ride(w, r, pre, body, early, notes, most)
 }
 
 // At least one step, at most so many.
@@ -294,7 +258,7 @@ fn onward<'a>(
     requires { ⌜ Good (now w) r × (0 < r .depth) × (0 < most) × (r .steps + most ≤ 1000000) × Short (now pre) (now body) × Noting (now pre) (now body) (now early) (now notes) ⌝ }
     ensures { λ q. ⌜ Onward (both (now (pre .entry)) (now (body .entry))) most (now (w .entry)) r (now (w .exit)) q × Noting (now (pre .entry)) (now (body .entry)) (now (early .exit)) (now (notes .exit)) ⌝ }
 {
-    let q = lead(w, r, pre, body, most);
+    let q = lead(w, r, pre, body, early, notes, most);
     if q.ok {
         return pace(w, q, pre, body, early, notes);
     }

@@ -176,7 +176,7 @@ module _ (s : State) (c : Context) (cs : List Context) (e : s .contexts ≡ c �
         let g : b ≡ bytesOf code (c .origin) = rw e at eb in
         rw (e, ← g) found
 
-    due-ahead : step code (ahead p n s) ≡ executed (ahead m (suc n) s) (execute code x (ahead m (suc n) s))
+    pub due-ahead : step code (ahead p n s) ≡ executed (ahead m (suc n) s) (execute code x (ahead m (suc n) s))
     unfolding step stepBy
     due-ahead = ap (λ (f : Found). stepBy code f (ahead p n s)) due-is ∙ literal-on code (s .skipping) on x (begun m (ahead p n s)) ∙ ap (λ (u : State). executed u (execute code x u)) (begun-ahead p n m)
 

@@ -41,7 +41,7 @@ use Rattle.state.proofs.Ending.{not-on}
 use Rattle.contexts.proofs.Entering.{begin-done}
 use Rattle.sprints.specs.declared.Stride.{Stride}
 use Rattle.sprints.specs.declared.Reach.{Reach}
-use Rattle.sprints.specs.Swift.{marked, raised, origin, ending, ahead, Flat, Strides, lifted, Rowed, Sprinted}
+use Rattle.sprints.specs.Swift.{marked, raised, origin, ending, ahead, Flat, Strides, lifted, Rowed}
 use Rattle.sprints.proofs.Ahead.{moved-same, begun-is, ended-ahead, settle-ahead, step-ahead}
 use Rattle.sprints.proofs.Level.{stays-none}
 use Rattle.sprints.proofs.Swiftly.{run-last, none-run, good-as}
@@ -100,6 +100,9 @@ module _ (b : List ℕ) (at : ℕ) (f : Form) (h : Shows b at f) where
   pub operator-none : (n next : ℕ) → f ≡ form.Operator n next → NoComment (tokenAt b at)
   operator-none n next e = rw (operator-shown b at f n next e h) tt
 
+pub operator-solid : (b : List ℕ) (at n next : ℕ) → tokenAt b at ≡ read.Operator n next → NoComment (tokenAt b at)
+operator-solid b at n next e = rw e tt
+
 pub ends-at : (w : List ℕ) (depth : ℕ) (c : Slot) → 0 < depth → c ≡ getD (slots w) (1752 + (depth - 1)) nil → c .c ≡ ending w depth
 unfolding running contextIn
 ends-at w depth c h e = sym (ap (λ (l : List Context). running l .end) (contexts-at (slots w) depth c h e))
@@ -110,7 +113,7 @@ is-on false e = not-on (sym e)
 
 -- ---- a literal
 
-pub strides-none : {b w : List ℕ} {r : Registers} (at p : ℕ) (t : Stride) → t ≡ record { height = 129; next = p } → Strides b at w r w t
+pub strides-none : {b w : List ℕ} {r : Registers} (at p : ℕ) (t : Stride) → t ≡ record { height = 129; next = p; number = 0 } → Strides b at w r w t
 strides-none at p t e =
     let h : t .height ≡ 129 = ap (λ (x : Stride). x .height) e in
     record {
@@ -119,19 +122,21 @@ strides-none at p t e =
       token = λ k. absurd (omega (arith, h));
       next = λ k. absurd (omega (arith, h));
       inside = λ k. absurd (omega (arith, h));
+      told = λ k. absurd (k (ap (λ (x : Stride). x .number) e));
       does = λ k. absurd (omega (arith, h));
     }
 
-module _ {b w w′ : List ℕ} {r : Registers} (at h next m : ℕ) (x : Literal) where
-  pub strides-of : (h ≤ 128 → foundAt b at ≡ record { literal = x; next = m }) → m ≡ solid b next → next ≤ length b → NoComment (tokenAt b at) → ((code : Code) → Flat (execute code x) w r w′ h)
-      → Strides b at w r w′ (record { height = h; next = next })
-  strides-of found em i nc f =
+module _ {b w w′ : List ℕ} {r : Registers} (at h next m n : ℕ) (x : Literal) where
+  pub strides-of : (h ≤ 128 → foundAt b at ≡ record { literal = x; next = m }) → m ≡ solid b next → next ≤ length b → NoComment (tokenAt b at) → ((n ≡ 0 → ⊥) → tokenAt b at ≡ read.Operator n next) → ((code : Code) → Flat (execute code x) w r w′ h)
+      → Strides b at w r w′ (record { height = h; next = next; number = n })
+  strides-of found em i nc told f =
       record {
         stays = f [] .stays;
         back = f [] .back;
         token = λ k. nc;
         next = λ k. rw (found k) em;
         inside = λ k. i;
+        told = told;
         does = λ k code. rw (found k) (f code);
       }
 
@@ -207,16 +212,18 @@ module _ {b w₀ w : List ℕ} {r₀ r : Registers} {at most clear p left : ℕ}
   pub not-yet : r₀ .ok ≡ false → r .ok ≡ false
   not-yet e = ap (λ (x : Registers). x .ok) (o .same) ∙ e
 
-  -- the row ends before the literal at p
-  pub rolling-stop : {w′ : List ℕ} → w′ ≡ w → (code : Code) (n : ℕ) → b ≡ bytesOf code (origin w₀ (r₀ .depth)) → Rowed code b at n most w₀ r₀ w′ (record { height = r .height; left = left; at = p })
-  rolling-stop {w′} e code n eb =
+  -- the row ends before the literal at p, an operator or none
+  pub rolling-stop : {w′ : List ℕ} (k next : ℕ) → ((k ≡ 0 → ⊥) → NoComment (tokenAt b p)) → w′ ≡ w → (code : Code) (n : ℕ) → b ≡ bytesOf code (origin w₀ (r₀ .depth)) → Rowed code b at n most w₀ r₀ w′ (record { height = r .height; left = left; at = p; number = k; next = next })
+  rolling-stop {w′} k next nc e code n eb =
       rw e
       (record {
         fits = o .busy .stack-fits;
         keeps = o .keeps;
         long = o .long;
+        stays = o .here;
         ends = o .ends;
         idle = o .idle;
+        here = λ h. rw (← (o .same)) (o .on code n eb (nc h));
         does = λ h. rw (← (o .same)) (o .off code n eb h);
       })
 
@@ -230,6 +237,9 @@ module _ {b w₀ w : List ℕ} {r₀ r : Registers} {at most clear p left : ℕ}
     anew : lifted r (t .height) ≡ lifted r₀ (t .height)
     anew = ap (λ (x : Registers). lifted x (t .height)) (o .same)
 
+    stays-there : origin w′ (r₀ .depth) ≡ origin w₀ (r₀ .depth)
+    stays-there = (rw deep at (d .stays .here few)) ∙ o .here
+
     ends-there : ending w′ (r₀ .depth) ≡ ending w₀ (r₀ .depth)
     ends-there = (rw deep at (d .stays .ends few)) ∙ o .ends
 
@@ -241,7 +251,7 @@ module _ {b w₀ w : List ℕ} {r₀ r : Registers} {at most clear p left : ℕ}
           same = anew;
           long = long ∙ o .long;
           keeps = d .stays .keeps few ∙ o .keeps;
-          here = (rw deep at (d .stays .here few)) ∙ o .here;
+          here = stays-there;
           ends = ends-there;
           low = omega (arith, d .stays .low few, o .low);
           within = omega (arith, o .within);
@@ -254,95 +264,15 @@ module _ {b w₀ w : List ℕ} {r₀ r : Registers} {at most clear p left : ℕ}
         }
 
     -- the literal at p done: the row ends
-    pub rolling-ends : length w′ ≡ length w → (code : Code) (n : ℕ) → b ≡ bytesOf code (origin w₀ (r₀ .depth)) → Rowed code b at n most w₀ r₀ w′ (record { height = t .height; left = left - 1; at = t .next })
+    pub rolling-ends : length w′ ≡ length w → (code : Code) (n : ℕ) → b ≡ bytesOf code (origin w₀ (r₀ .depth)) → Rowed code b at n most w₀ r₀ w′ (record { height = t .height; left = left - 1; at = t .next; number = 0; next = t .next })
     rolling-ends long code n eb =
         record {
           fits = few;
           keeps = d .stays .keeps few ∙ o .keeps;
           long = long ∙ o .long;
+          stays = stays-there;
           ends = ends-there;
           idle = λ h. absurd (omega (arith, o .within));
+          here = λ h. absurd (h refl);
           does = λ h. rw (← anew) (rolled code n eb);
         }
-
--- ---- the row put into the table
-
--- the registers within the row: one step more is counted
-abbrev held : Registers → Registers
-held r = record { height = r .height; depth = r .depth; used = r .used; steps = r .steps + 1; errors = r .errors; skipping = r .skipping; ok = false }
-
-pub busy-held : {w : List ℕ} {r : Registers} (most : ℕ) → Good w r → 0 < r .depth → r .steps + most ≤ 1000000 → Busy w (held r)
-busy-held most g d h =
-    record { room = g .room; stack-fits = g .stack-fits; depth-fits = g .depth-fits; runs = d; cells-fit = g .cells-fit; errors-fit = omega (arith, g .errors-fit); steps-fit = omega arith }
-
--- a row that did nothing
-pub sprint-idle : {code : Code} {w w′ : List ℕ} {r : Registers} (most : ℕ) → Good w r → 0 < r .depth → r .skipping ≡ false → w′ ≡ w
-    → Sprinted code most w r w′ (record { height = r .height; depth = r .depth; used = r .used; steps = r .steps; errors = r .errors; skipping = r .skipping; ok = false })
-sprint-idle {code} {w} {w′} {r} most g d quiet e =
-    rw e
-    (record {
-      good = good-as false g;
-      runs = d;
-      on = quiet;
-      keeps = refl;
-      since = omega arith;
-      within = omega arith;
-      some = λ h. not-on h;
-      counted = λ h. not-on h;
-      ends = λ h. not-on h;
-      does = λ h. none-run code (r .steps) (abs w r);
-    })
-
-start-ahead : (w : List ℕ) (r : Registers) (at : ℕ) → at ≡ running (contextsOf (slots w) (r .depth)) .at → abs w r ≡ ahead at (r .steps) (abs w (held r))
-start-ahead w r at e =
-    ap (λ (l : List Context). record { stack = abs w r .stack; contexts = l; frame = abs w r .frame; cells = abs w r .cells; skipping = r .skipping; steps = r .steps; errors = r .errors })
-    (sym (moved-same (contextsOf (slots w) (r .depth)) at e))
-
-module _ (w w′ : List ℕ) (r : Registers) (p n : ℕ) (g : Good w r) (runs : 0 < r .depth) (few : r .steps < 4294967295) (e : slots w′ ≡ goesTo (slots w) (r .depth) p) where
-  goes : Begun p w r w′ (record { height = r .height; depth = r .depth; used = r .used; steps = r .steps + 1; errors = r .errors; skipping = r .skipping; ok = r .ok })
-  goes = begin-done p g runs few e refl
-
-  goes-ahead : (b : Bool) → abs w′ (record { height = r .height; depth = r .depth; used = r .used; steps = n; errors = r .errors; skipping = r .skipping; ok = b }) ≡ ahead p n (abs w r)
-  goes-ahead b =
-      ap (λ (s : State). record { stack = s .stack; contexts = s .contexts; frame = s .frame; cells = s .cells; skipping = s .skipping; steps = n; errors = s .errors })
-      (goes .does ∙ begun-is (abs w r) (contextAt (slots w) (r .depth - 1)) (contextsOf (slots w) (r .depth - 1)) (contexts-top (slots w) (r .depth) runs) p)
-
--- the registers where a row has come to, and after it
-abbrev reached : Registers → Reach → Registers
-reached r t = lifted (held r) (t .height)
-
-abbrev after : Registers → ℕ → Reach → Bool → Registers
-after r most t k = record { height = t .height; depth = r .depth; used = r .used; steps = r .steps + (most - t .left); errors = r .errors; skipping = r .skipping; ok = k }
-
-module _ (code : Code) (b w w′ w″ : List ℕ) (r : Registers) (at most p end : ℕ) (t : Reach) (g : Good w r) (runs : 0 < r .depth) (quiet : r .skipping ≡ false) (sum : r .steps + most ≤ 1000000) (less : t .left < most)
-    (ea : at ≡ running (contextsOf (slots w) (r .depth)) .at) (ee : end ≡ ending w (r .depth)) (o : Rowed code b at (r .steps) most w (held r) w′ t) (ep : p ≡ solid b (t .at)) (moves : slots w″ ≡ goesTo (slots w′) (r .depth) p) (long : length w″ ≡ length w′) where
-  good-there : Good w′ (reached r t)
-  good-there = record { room = omega (arith, g .room, o .long); stack-fits = o .fits; depth-fits = g .depth-fits; cells-fit = g .cells-fit; errors-fit = omega (arith, g .errors-fit) }
-
-  there : (k : Bool) → abs w″ (after r most t k) ≡ ahead p (r .steps + (most - t .left)) (abs w′ (reached r t))
-  there k = goes-ahead w′ w″ (reached r t) p (r .steps + (most - t .left)) good-there runs (omega arith) moves k
-
-  all-run : (k : Bool) → run (r .steps + (most - t .left) - r .steps) code (abs w r) ≡ settle (abs w″ (after r most t k))
-  all-run k =
-      let z : r .steps + (most - t .left) - r .steps ≡ most - t .left = omega arith in
-      rw (z, start-ahead w r at ea, there k, ep) (o .does less)
-
-  stays-here : (k : Bool) → leb end p ≡ false → settle (abs w″ (after r most t k)) ≡ abs w″ (after r most t k)
-  stays-here k h =
-      rw (there k)
-      (settle-ahead (abs w′ (reached r t)) (contextAt (slots w′) (r .depth - 1)) (contextsOf (slots w′) (r .depth - 1)) (contexts-top (slots w′) (r .depth) runs) p (r .steps + (most - t .left)) quiet (omega (arith, leb-false end p h, ee, o .ends)))
-
-  pub sprint-done : Sprinted code most w r w″ (after r most t (leb end p))
-  sprint-done =
-      record {
-        good = record { room = omega (arith, g .room, o .long, long); stack-fits = o .fits; depth-fits = g .depth-fits; cells-fit = g .cells-fit; errors-fit = omega (arith, g .errors-fit) };
-        runs = runs;
-        on = quiet;
-        keeps = goes w′ w″ (reached r t) p 0 good-there runs (omega arith) moves .keeps ∙ o .keeps;
-        since = omega arith;
-        within = omega arith;
-        some = λ h. omega arith;
-        counted = λ h. omega (arith, g .errors-fit);
-        ends = λ h. all-run (leb end p);
-        does = λ h. all-run (leb end p) ∙ stays-here (leb end p) h;
-      }

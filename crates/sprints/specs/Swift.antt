@@ -8,6 +8,7 @@ use mathlib.Core.Option.{Option, none, some}
 use lib.ListN.{length}
 use Rattle.table.specs.Slots.{slots}
 use Rattle.machine.specs.Limits.{mostEntries}
+use Rattle.tokens.specs.declared.Read.the-variants as read
 use Rattle.tokens.specs.Token.{tokenAt}
 use Rattle.machine.specs.State.{Context, State, running}
 use Rattle.machine.specs.Skeleton.{solid}
@@ -103,6 +104,7 @@ pub record Strides (b : List ℕ) (at : ℕ) (w : List ℕ) (r : Registers) (w�
   pub token : t .height ≤ mostEntries → NoComment (tokenAt b at)
   pub next : t .height ≤ mostEntries → foundAt b at .next ≡ solid b (t .next)
   pub inside : t .height ≤ mostEntries → t .next ≤ length b
+  pub told : (t .number ≡ 0 → ⊥) → tokenAt b at ≡ read.Operator (t .number) (t .next)
   pub does : t .height ≤ mostEntries → (code : Code) → Flat (execute code (foundAt b at .literal)) w r w′ (t .height)
 
 -- the registers r with another height
@@ -114,19 +116,8 @@ pub record Rowed (code : Code) (b : List ℕ) (at n most : ℕ) (w : List ℕ) (
   pub fits : t .height ≤ mostEntries
   pub keeps : aside w′ ≡ aside w
   pub long : length w′ ≡ length w
+  pub stays : origin w′ (r .depth) ≡ origin w (r .depth)
   pub ends : ending w′ (r .depth) ≡ ending w (r .depth)
   pub idle : t .left ≡ most → (w′ ≡ w) × (t .height ≡ r .height)
+  pub here : (t .number ≡ 0 → ⊥) → run (most - t .left) code (ahead at n (abs w r)) ≡ ahead (t .at) (n + (most - t .left)) (abs w′ (lifted r (t .height)))
   pub does : t .left < most → run (most - t .left) code (ahead at n (abs w r)) ≡ settle (ahead (solid b (t .at)) (n + (most - t .left)) (abs w′ (lifted r (t .height))))
-
--- some steps, at most so many; `ok`: the last but for the end of bodies
-pub record Sprinted (code : Code) (most : ℕ) (w : List ℕ) (r : Registers) (w′ : List ℕ) (r′ : Registers) : Type 0 where
-  pub good : Good w′ r′
-  pub runs : 0 < r′ .depth
-  pub on : r′ .skipping ≡ false
-  pub keeps : aside w′ ≡ aside w
-  pub since : r .steps ≤ r′ .steps
-  pub within : r′ .steps ≤ r .steps + most
-  pub some : r′ .ok ≡ true → r .steps < r′ .steps
-  pub counted : r′ .ok ≡ true → r′ .errors < r′ .steps
-  pub ends : r′ .ok ≡ true → run (r′ .steps - r .steps) code (abs w r) ≡ settle (abs w′ r′)
-  pub does : r′ .ok ≡ false → run (r′ .steps - r .steps) code (abs w r) ≡ abs w′ r′

@@ -16,8 +16,10 @@ ghost use Rattle.machine.specs.Operators.{opOf, arityOf, effectOf};
 ghost use Rattle.machine.specs.Operand.{answered};
 ghost use Rattle.machine.specs.Literal.{Code, bytesOf};
 ghost use Rattle.machine.specs.Step.{execute};
-ghost use Rattle.state.specs.Layout.{Good, Busy};
-ghost use Rattle.sprints.specs.Swift.{marked, origin, ending, quiet, Flat, Strides, Rowed, Sprinted};
+ghost use Rattle.tokens.specs.declared.Read.the-variants as read;
+ghost use Rattle.tokens.specs.Token.{tokenAt};
+ghost use Rattle.state.specs.Layout.{Busy};
+ghost use Rattle.sprints.specs.Swift.{marked, origin, ending, quiet, Flat, Strides, Rowed};
 use machine::Effect;
 use machine::FrameOp;
 use machine::Literal;
@@ -31,18 +33,24 @@ use numbers::Number;
 use state::Registers;
 use tokens::Form;
 
-// What a literal leaves: the height of the stack, and where the next token stands.
+// What a literal leaves: the height of the stack, and where the next token stands. `number` is the operator at its place, 0 for none.
 pub struct Stride {
     pub height: usize,
     pub next: usize,
+    pub number: u16,
 }
 
-// Where a row of literals has come to: the height of the stack, the steps that are left, the place.
+// Where a row of literals has come to: the height of the stack, the steps that are left, the place. `number` is the operator there that
+// was left undone, and `next` where it ends; 0 says nothing of what stands there.
 pub struct Reach {
     pub height: usize,
     pub left: usize,
     pub at: usize,
+    pub number: u16,
+    pub next: usize,
 }
+
+const NO_OPERATOR: u16 = 0;
 
 // More than the stack can hold: nothing was done.
 const UNDONE: usize = 129;
@@ -257,11 +265,12 @@ fn operate(w: &mut [u8], r: Registers, n: u16, clear: usize) -> usize
 // ---- several in a row
 
 fn undone(at: usize) -> Stride
-    ensures { λ t. ⌜ t ≡ record { height = 129; next = at } ⌝ }
+    ensures { λ t. ⌜ t ≡ record { height = 129; next = at; number = 0 } ⌝ }
 {
     Stride {
         height: UNDONE,
         next: at,
+        number: NO_OPERATOR,
     }
 }
 
@@ -281,6 +290,7 @@ fn sequence(w: &mut [u8], r: Registers, b: &[u8], at: usize) -> Stride
             Stride {
                 height,
                 next: d.next,
+                number: NO_OPERATOR,
             }
         }
         Literal::Name { start, len } => {
@@ -288,6 +298,7 @@ fn sequence(w: &mut [u8], r: Registers, b: &[u8], at: usize) -> Stride
             Stride {
                 height,
                 next: d.next,
+                number: NO_OPERATOR,
             }
         }
         _ => undone(at),
@@ -303,11 +314,19 @@ fn literal(w: &mut [u8], r: Registers, b: &[u8], at: usize, clear: usize) -> Str
         Form::Number { raw, next } => {
             let a = reader::reading::short_value(raw);
             let height = height_of(state::stack::push_number(w, r, a));
-            Stride { height, next }
+            Stride {
+                height,
+                next,
+                number: NO_OPERATOR,
+            }
         }
         Form::Operator { number, next } => {
             let height = operate(w, r, number, clear);
-            Stride { height, next }
+            Stride {
+                height,
+                next,
+                number,
+            }
         }
         Form::Sequence => sequence(w, r, b, at),
         Form::Cut => undone(at),
@@ -316,7 +335,7 @@ fn literal(w: &mut [u8], r: Registers, b: &[u8], at: usize, clear: usize) -> Str
 
 // Literals from `at` on, as long as they can be executed here and the running body, which ends at `end`, goes on. Place and steps are not yet
 // put into the table. No mark stands at the height `clear` or above.
-fn row(
+pub fn row(
     w: &mut [u8],
     start: Registers,
     b: &[u8],
@@ -326,7 +345,7 @@ fn row(
     clear: usize,
 ) -> Reach
     requires { ⌜ (length (now b) ≤ 16777215) × Busy (now w) start × (start .skipping ≡ false) × (start .ok ≡ false) × (end ≡ ending (now w) (start .depth)) × (marked (now w) (start .height) ≤ clear) ⌝ }
-    ensures { λ t. ⌜ (t .left ≤ most) × (t .left < most → t .at ≤ length (now (b .entry))) × ((code : Code) (n : ℕ) → now (b .entry) ≡ bytesOf code (origin (now (w .entry)) (start .depth)) → Rowed code (now (b .entry)) at n most (now (w .entry)) start (now (w .exit)) t) ⌝ }
+    ensures { λ t. ⌜ (t .left ≤ most) × (t .left < most → t .at ≤ length (now (b .entry))) × ((t .number ≡ 0 → ⊥) → (0 < t .left) × (tokenAt (now (b .entry)) (t .at) ≡ read.Operator (t .number) (t .next))) × ((code : Code) (n : ℕ) → now (b .entry) ≡ bytesOf code (origin (now (w .entry)) (start .depth)) → Rowed code (now (b .entry)) at n most (now (w .entry)) start (now (w .exit)) t) ⌝ }
 {
     let mut r = start;
     let mut p = at;
@@ -338,6 +357,8 @@ fn row(
                 height: r.height,
                 left,
                 at: p,
+                number: t.number,
+                next: t.next,
             };
         }
         r.height = t.height;
@@ -348,6 +369,8 @@ fn row(
                 height: r.height,
                 left,
                 at: p,
+                number: NO_OPERATOR,
+                next: p,
             };
         }
     }
@@ -355,48 +378,7 @@ fn row(
         height: r.height,
         left,
         at: p,
+        number: NO_OPERATOR,
+        next: p,
     }
-}
-
-// Where the running body ends.
-fn end_of(w: &[u8], depth: usize) -> u32
-    requires { ⌜ (0 < depth) × (depth ≤ 12) × (48000 ≤ length (now w)) ⌝ }
-    ensures { λ r. ⌜ r ≡ ending (now (w .entry)) depth ⌝ }
-{
-    let c = table::slots::get(w, 1752 + (depth - 1));
-    c.c
-}
-
-// Literals of the running body, whose bytes are b, as long as they can be executed here and the body goes on. `ok` says that the last one
-// has ended its body, which is still to be left.
-pub fn sprint(w: &mut [u8], start: Registers, b: &[u8], most: usize) -> Registers
-    requires { ⌜ Good (now w) start × (0 < start .depth) × (start .skipping ≡ false) × (start .steps + most ≤ 1000000) × (length (now b) ≤ 16777215) ⌝ }
-    ensures { λ q. ⌜ ((code : Code) → now (b .entry) ≡ bytesOf code (origin (now (w .entry)) (start .depth)) → Sprinted code most (now (w .entry)) start (now (w .exit)) q) ⌝ }
-{
-    let depth = start.depth;
-    let c = contexts::bodies::running(w, depth);
-    let end = table::words::size(end_of(w, depth));
-    let mut r = start;
-    r.steps = start.steps + 1;
-    r.ok = false;
-    let t = row(
-        w,
-        r,
-        b,
-        table::words::size(c.start),
-        end,
-        most,
-        start.height,
-    );
-    let mut q = start;
-    q.ok = false;
-    if t.left == most {
-        return q;
-    }
-    q.height = t.height;
-    q.steps = start.steps + (most - t.left);
-    let p = nesting::bodies::past_comments(b, t.at);
-    contexts::bodies::go_to(w, depth, table::words::word(p));
-    q.ok = p >= end;
-    q
 }

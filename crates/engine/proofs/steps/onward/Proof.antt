@@ -1,7 +1,6 @@
--- `steps::onward` meets its contract. Assumes nothing.
-use borrow.Author.Needs.{needs}
-use native.Mathlib.Omega.{arith}
 use Rattle.engine.proofs.Leading.{onward-paced, onward-led}
+use native.Mathlib.Omega.{arith}
+use borrow.Author.Needs.{needs}
 use Rattle.engine.proofs.steps.onward.Statement.{statement}
 use Rattle.engine.proofs.steps.onward.Tie as tie
 
@@ -10,10 +9,12 @@ onward-spec =
     tie.close
     (tie.spec
     (λ c κs. search needs)
-    (λ c κs. (c .before .before .before .before .before .before .lead .ensures .good, c .before .before .before .before .before .before .lead .ensures .runs (c .before .before .before .if1 .taken), c .before .before .before .before .before .before .lead .ensures .executes (c .before .before .before .if1 .taken), omega (arith, c .before .before .before .before .before .before .lead .ensures .within, c .before .before .before .before .before .before .before .before .before .before .before .before .before .pre .3), c .before .before .before .before .before .before .before .before .before .before .before .before .before .pre .4, c .before .before .before .before .before .before .before .before .before .before .before .before .before .pre .5))
+    (λ c κs. (c .before .before .before .before .before .before .before .before .before .before .lead .ensures .0 .good, c .before .before .before .before .before .before .before .before .before .before .lead .ensures .0 .runs (c .before .before .before .if1 .taken), c .before .before .before .before .before .before .before .before .before .before .lead .ensures .0 .executes (c .before .before .before .if1 .taken), omega (arith, c .before .before .before .before .before .before .before .before .before .before .lead .ensures .0 .within, c .before .before .before .before .before .before .before .before .before .before .before .before .before .before .before .before .before .before .before .pre .3), c .before .before .before .before .before .before .before .before .before .before .before .before .before .before .before .before .before .before .before .pre .4, c .before .before .before .before .before .before .before .before .before .before .lead .ensures .1))
     (λ c. search needs)
     (λ c. search needs)
     (λ c. search needs)
-    (λ c. (onward-paced _ _ _ (c .before .before .before .before .before .before .before .before .before .before .before .before .before .lead .ensures) (c .before .before .before .before .before .before .before .before .before .before .if1 .taken) (c .before .before .before .before .before .before .pace .ensures .0), c .before .before .before .before .before .before .pace .ensures .1))
+    (λ c. (onward-paced _ _ _ (c .before .before .before .before .before .before .before .before .before .before .before .before .before .before .before .before .before .lead .ensures .0) (c .before .before .before .before .before .before .before .before .before .before .if1 .taken) (c .before .before .before .before .before .before .pace .ensures .0), c .before .before .before .before .before .before .pace .ensures .1))
     (λ c. search needs)
-    (λ c. (onward-led _ _ _ (c .before .before .before .lead .ensures) (c .if1 .left), c .before .before .before .before .before .before .before .before .before .before .pre .5)))
+    (λ c. search needs)
+    (λ c. search needs)
+    (λ c. (onward-led _ _ _ (c .before .before .before .before .before .before .before .lead .ensures .0) (c .if1 .left), c .before .before .before .before .before .before .before .lead .ensures .1)))

@@ -1,0 +1,4 @@
+-- The laws, lowest first. Assumes nothing.
+pub mod Calling
+pub mod Holding
+pub mod Riding

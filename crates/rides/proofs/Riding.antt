@@ -1,0 +1,211 @@
+-- Rows of literals, and what stands between them. In order: the running body; a body gone on in; several steps. Assumes nothing.
+use Prim.Native.Nat.{ℕ, suc, _+_, _-_, _≤_, _<_}
+use native.Mathlib.Omega.{arith}
+use mathlib.Core.Path.{_≡_, refl, sym, ap, _∙_}
+use mathlib.Core.Bool.{Bool, true, false}
+use mathlib.Core.Logic.{inl, inr}
+use mathlib.Core.List.{List, [], _∷_}
+use lib.ListN.{length, getD}
+use Rattle.table.specs.declared.Slot.{Slot}
+use Rattle.table.specs.Slots.{slots, nil}
+use Rattle.machine.specs.State.{Context, State, running}
+use types.Run.{OneOf}
+use Rattle.tokens.specs.declared.Read.the-variants as read
+use Rattle.tokens.specs.Token.{tokenAt}
+use Rattle.machine.specs.declared.Literal.{Literal}
+use Rattle.machine.specs.declared.Literal.the-variants.{Plain, WithBody}
+use Rattle.machine.specs.declared.Op.the-variants.{Calls}
+use Rattle.machine.specs.declared.CallOp.the-variants.{Do}
+use Rattle.machine.specs.declared.Went.the-variants.{Past}
+use Rattle.machine.specs.Limits.{mostOpen}
+use Rattle.machine.specs.Skeleton.{solid, bodyAt}
+use Rattle.machine.specs.Literal.{Code, bytesOf, holdingBy, holdingAt, operatorBy, foundBy, foundAt}
+use Rattle.machine.specs.Contexts.{settle}
+use Rattle.machine.specs.Step.{execute, executed, step, run}
+use Rattle.machine.proofs.Inside.{token-inside}
+use Rattle.state.specs.declared.Registers.{Registers}
+use Rattle.state.specs.Layout.{contextsOf, contextAt, contextIn, goesTo, aside, abs, Good, Busy, Done, Begun}
+use Rattle.state.proofs.Parts.{contexts-top, contexts-at}
+use Rattle.state.proofs.Ending.{not-on}
+use Rattle.contexts.proofs.Entering.{begin-done}
+use Rattle.sprints.specs.declared.Reach.{Reach}
+use Rattle.sprints.specs.Swift.{origin, ending, ahead, Rowed}
+use Rattle.sprints.proofs.Ahead.{moved-same, begun-is, ended-ahead, settle-ahead, due-ahead}
+use Rattle.sprints.proofs.Swiftly.{op-role, by-number, run-last, none-run, good-as}
+use Rattle.rides.specs.Rides.{Paced, Alighted, Led}
+use Rattle.rides.proofs.Holding.{held-role}
+
+-- ---- the running body
+
+-- the registers within a row: one step more is counted
+abbrev pub held : Registers → Registers
+held r = record { height = r .height; depth = r .depth; used = r .used; steps = r .steps + 1; errors = r .errors; skipping = r .skipping; ok = false }
+
+pub busy-held : {w : List ℕ} {r : Registers} (most : ℕ) → Good w r → 0 < r .depth → r .steps + most ≤ 1000000 → Busy w (held r)
+busy-held most g d h =
+    record { room = g .room; stack-fits = g .stack-fits; depth-fits = g .depth-fits; runs = d; cells-fit = g .cells-fit; errors-fit = omega (arith, g .errors-fit); steps-fit = omega arith }
+
+pub seat-is : (w : List ℕ) (depth : ℕ) (c : Slot) (at end : ℕ) → 0 < depth → c ≡ getD (slots w) (1752 + (depth - 1)) nil → at ≡ c .b → end ≡ c .c
+    → (c .a ≡ origin w depth) × (at ≡ running (contextsOf (slots w) depth) .at) × (end ≡ ending w depth)
+unfolding running contextIn
+seat-is w depth c at end h e ea ee =
+    let l = contexts-at (slots w) depth c h e in
+    (sym (ap (λ (x : List Context). running x .origin) l), ea ∙ sym (ap (λ (x : List Context). running x .at) l), ee ∙ sym (ap (λ (x : List Context). running x .end) l))
+
+start-ahead : (w : List ℕ) (r : Registers) (at : ℕ) → at ≡ running (contextsOf (slots w) (r .depth)) .at → abs w r ≡ ahead at (r .steps) (abs w (held r))
+start-ahead w r at e =
+    ap (λ (l : List Context). record { stack = abs w r .stack; contexts = l; frame = abs w r .frame; cells = abs w r .cells; skipping = r .skipping; steps = r .steps; errors = r .errors })
+    (sym (moved-same (contextsOf (slots w) (r .depth)) at e))
+
+module _ (w w′ : List ℕ) (r : Registers) (p n : ℕ) (g : Good w r) (runs : 0 < r .depth) (few : r .steps < 4294967295) (e : slots w′ ≡ goesTo (slots w) (r .depth) p) where
+  goes : Begun p w r w′ (record { height = r .height; depth = r .depth; used = r .used; steps = r .steps + 1; errors = r .errors; skipping = r .skipping; ok = r .ok })
+  goes = begin-done p g runs few e refl
+
+  goes-ahead : (b : Bool) → abs w′ (record { height = r .height; depth = r .depth; used = r .used; steps = n; errors = r .errors; skipping = r .skipping; ok = b }) ≡ ahead p n (abs w r)
+  goes-ahead b =
+      ap (λ (s : State). record { stack = s .stack; contexts = s .contexts; frame = s .frame; cells = s .cells; skipping = s .skipping; steps = n; errors = s .errors })
+      (goes .does ∙ begun-is (abs w r) (contextAt (slots w) (r .depth - 1)) (contextsOf (slots w) (r .depth - 1)) (contexts-top (slots w) (r .depth) runs) p)
+
+-- ---- a body gone on in
+
+module _ (w w₁ : List ℕ) (r : Registers) (p at end : ℕ) (g : Good w r) (runs : 0 < r .depth) (quiet : r .skipping ≡ false) (few : r .steps < 4294967295) (ep : at ≡ p) (moves : slots w₁ ≡ goesTo (slots w) (r .depth) at) (long : length w₁ ≡ length w) where
+  there : abs w₁ r ≡ ahead p (r .steps) (abs w r)
+  there = rw (← ep) (goes-ahead w w₁ r at (r .steps) g runs few moves (r .ok))
+
+  pub good-there : Good w₁ r
+  good-there = record { room = omega (arith, g .room, long); stack-fits = g .stack-fits; depth-fits = g .depth-fits; cells-fit = g .cells-fit; errors-fit = g .errors-fit }
+
+  kept : aside w₁ ≡ aside w
+  kept = goes w w₁ r at 0 g runs few moves .keeps
+
+  -- it has not ended
+  pub alights-on : end ≡ ending w (r .depth) → at < end → Alighted p w r w₁ r
+  alights-on ee h =
+      record {
+        good = good-there;
+        does = there ∙ sym (settle-ahead (abs w r) (contextAt (slots w) (r .depth - 1)) (contextsOf (slots w) (r .depth - 1)) (contexts-top (slots w) (r .depth) runs) p (r .steps) quiet (omega arith));
+        keeps = kept;
+        counted = refl;
+        runs = λ _. runs;
+        on = λ _. quiet;
+      }
+
+  -- bodies that have ended are left
+  pub alights : {w′ : List ℕ} {q : Registers} (r′ : Registers) → Done settle w₁ r w′ q → r′ ≡ record { height = q .height; depth = q .depth; used = q .used; steps = q .steps; errors = q .errors; skipping = q .skipping; ok = false } → Alighted p w r w′ r′
+  alights r′ d e =
+      rw e
+      (record {
+        good = good-as _ (d .good);
+        does = d .does ∙ ap settle there;
+        keeps = d .keeps ∙ kept;
+        counted = d .counted;
+        runs = λ h. not-on h;
+        on = λ h. not-on h;
+      })
+
+-- ---- a row and the step that ends it
+
+-- DO at a place
+pub do-found : (b : List ℕ) (at n next m : ℕ) → tokenAt b at ≡ read.Operator n next → n ≡ 231 → m ≡ solid b next → foundAt b at ≡ record { literal = Plain 231; next = m }
+unfolding foundAt foundBy operatorBy
+do-found b at n next m e z em = rw (e, z, em, op-role 231 (Calls Do) (by-number .6) refl)
+
+-- an operator with its body
+pub held-found : (b : List ℕ) (at n next end : ℕ) → tokenAt b at ≡ read.Operator n next → OneOf (110 ∷ 239 ∷ 240 ∷ []) n → bodyAt mostOpen b next ≡ Past end
+    → foundAt b at ≡ record { literal = WithBody n (solid b next + 2) (end - 2 - (solid b next + 2)); next = solid b end }
+unfolding foundAt foundBy operatorBy holdingAt holdingBy
+held-found b at n next end e o h = rw (e, held-role n o, h)
+
+pub held-some : (n : ℕ) → OneOf (110 ∷ 239 ∷ 240 ∷ []) n → n ≡ 0 → ⊥
+held-some n (inl e) z = omega arith
+held-some n (inr (inl e)) z = omega arith
+held-some n (inr (inr e)) z = omega arith
+
+pub next-inside : (b : List ℕ) (at n next : ℕ) → tokenAt b at ≡ read.Operator n next → next ≤ length b
+next-inside b at n next e = (rw e at (token-inside b at)) .1
+
+pub rowed-held : {b w w₁ : List ℕ} {at most : ℕ} {t : Reach} (r h : Registers) → h ≡ held r → ((code : Code) (n : ℕ) → b ≡ bytesOf code (origin w (h .depth)) → Rowed code b at n most w h w₁ t)
+    → (code : Code) (n : ℕ) → b ≡ bytesOf code (origin w (r .depth)) → Rowed code b at n most w (held r) w₁ t
+rowed-held r h e f = rw e at f
+
+-- the registers after a row
+abbrev pub after : Registers → ℕ → Reach → Bool → Registers
+after r most t k = record { height = t .height; depth = r .depth; used = r .used; steps = r .steps + (most - t .left); errors = r .errors; skipping = r .skipping; ok = k }
+
+module _ (code : Code) (b w w₁ : List ℕ) (r : Registers) (at most : ℕ) (t : Reach) (g : Good w r) (runs : 0 < r .depth) (quiet : r .skipping ≡ false) (few : t .left ≤ most)
+    (ea : at ≡ running (contextsOf (slots w) (r .depth)) .at) (eb : b ≡ bytesOf code (origin w (r .depth))) (o : Rowed code b at (r .steps) most w (held r) w₁ t) where
+  pub good-row : (k : Bool) → Good w₁ (after r most t k)
+  good-row k = record { room = omega (arith, g .room, o .long); stack-fits = o .fits; depth-fits = g .depth-fits; cells-fit = g .cells-fit; errors-fit = omega (arith, g .errors-fit) }
+
+  pub bytes-row : b ≡ bytesOf code (origin w₁ (r .depth))
+  bytes-row = rw (o .stays) eb
+
+  -- a literal that is due after it
+  module _ {w₂ : List ℕ} {z : Registers} (x : Literal) (m : ℕ) (some : t .number ≡ 0 → ⊥) (found : foundAt b (t .at) ≡ record { literal = x; next = m }) (p : Paced code x m w₁ (after r most t true) w₂ z) where
+    abbrev s : State
+    s = abs w₁ (after r most t true)
+
+    top : s .contexts ≡ contextAt (slots w₁) (r .depth - 1) ∷ contextsOf (slots w₁) (r .depth - 1)
+    top = contexts-top (slots w₁) (r .depth) runs
+
+    one-more : run (suc (most - t .left)) code (abs w r) ≡ abs w₂ z
+    one-more =
+        let here : run (most - t .left) code (abs w r) ≡ ahead (t .at) (r .steps + (most - t .left)) s = rw (start-ahead w r at ea) (o .here some) in
+        let c = contextAt (slots w₁) (r .depth - 1) in
+        let cs = contextsOf (slots w₁) (r .depth - 1) in
+        run-last code (most - t .left) (abs w r) (rw here (ended-ahead s c cs top (t .at) (r .steps + (most - t .left)))) ∙ ap (step code) here
+        ∙ due-ahead s c cs top code b (t .at) (r .steps + (most - t .left)) m x bytes-row found quiet
+        ∙ ap (λ (u : State). executed u (execute code x u)) (sym (begun-is s c cs top m)) ∙ sym (p .does)
+
+    pub led-paced : 0 < t .left → (r′ : Registers) → r′ ≡ record { height = z .height; depth = z .depth; used = z .used; steps = z .steps; errors = z .errors; skipping = z .skipping; ok = false } → Led code most w r w₂ r′
+    led-paced h r′ e =
+        let k : z .steps - r .steps ≡ suc (most - t .left) = omega (arith, p .counted) in
+        rw e
+        (record {
+          good = good-as false (p .good);
+          does = rw k one-more;
+          keeps = p .keeps ∙ o .keeps;
+          since = omega (arith, p .counted);
+          within = omega (arith, p .counted);
+          some = λ _. omega (arith, p .counted);
+          more = λ h. not-on h;
+          runs = λ h. not-on h;
+          executes = λ h. not-on h;
+        })
+
+  -- the row ends its body, or before a literal that is left to others
+  pub led-alights : {w₂ : List ℕ} {z : Registers} → Alighted (solid b (t .at)) w₁ (after r most t true) w₂ z → t .left < most → (k : Bool) → (k ≡ true → (z .ok ≡ true) × (0 < t .left)) → (r′ : Registers)
+      → r′ ≡ record { height = z .height; depth = z .depth; used = z .used; steps = z .steps; errors = z .errors; skipping = z .skipping; ok = k } → Led code most w r w₂ r′
+  led-alights {w₂} {z} a less k i r′ e =
+      let n : z .steps - r .steps ≡ most - t .left = omega (arith, a .counted) in
+      let off : run (most - t .left) code (abs w r) ≡ abs w₂ z = (rw (start-ahead w r at ea) (o .does less)) ∙ sym (a .does) in
+      rw e
+      (record {
+        good = good-as k (a .good);
+        does = rw n off;
+        keeps = a .keeps ∙ o .keeps;
+        since = omega (arith, a .counted);
+        within = omega (arith, a .counted);
+        some = λ _. omega (arith, a .counted);
+        more = λ h. let l = i h in omega (arith, a .counted, l .1);
+        runs = λ h. a .runs (i h .0);
+        executes = λ h. rw (a .on (i h .0));
+      })
+
+  -- nothing was done
+  pub led-idle : t .left ≡ most → 0 < most → Led code most w r w₁ (after r most t true)
+  led-idle e h =
+      let u = o .idle e in
+      let z : r .steps + (most - t .left) - r .steps ≡ most - most = omega arith in
+      let n : r .steps + (most - t .left) ≡ r .steps = omega arith in
+      record {
+        good = good-row true;
+        does = rw (z, u .0, u .1, n) (none-run code most (abs w r));
+        keeps = o .keeps;
+        since = omega arith;
+        within = omega arith;
+        some = λ k. not-on (sym k);
+        more = λ _. omega arith;
+        runs = λ _. runs;
+        executes = λ _. rw quiet;
+      }
