@@ -101,3 +101,10 @@ origin-begun n s = begun-by n s (s .contexts) refl
 
 pub bytes-begun : {w w₁ : List ℕ} {r s : Registers} (code : Code) (b : List ℕ) (n : ℕ) → Begun n w r w₁ s → b ≡ bytesOf code (origin w (r .depth)) → b ≡ bytesOf code (origin w₁ (s .depth))
 bytes-begun {w} {w₁} {r} {s} code b n be eb = eb ∙ ap (bytesOf code) (sym (ap (λ (u : State). running (u .contexts) .origin) (be .does) ∙ origin-begun n (abs w r)))
+
+-- a step with a literal that fails
+pub paced-fails : {w w₁ w′ : List ℕ} {r s r′ : Registers} (m n : ℕ) → n ≡ m → Begun n w r w₁ s → Done fault w₁ s w′ r′ → (code : Code) (x : Literal) → execute code x (begun m (abs w r)) ≡ none → Paced code x m w r w′ r′
+unfolding executed
+paced-fails {w} {w₁} {w′} {r} {s} {r′} m n em be d code x e =
+    let z : begun m (abs w r) ≡ abs w₁ s = rw (← em) (sym (be .does)) in
+    record { good = d .good; does = d .does ∙ ap fault (sym z) ∙ (rw e); keeps = d .keeps ∙ be .keeps; counted = d .counted ∙ be .counted }

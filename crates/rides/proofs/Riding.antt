@@ -4,6 +4,7 @@ use native.Mathlib.Omega.{arith}
 use mathlib.Core.Path.{_≡_, refl, sym, ap, _∙_}
 use mathlib.Core.Bool.{Bool, true, false}
 use mathlib.Core.Logic.{inl, inr}
+use mathlib.Core.Option.{none}
 use mathlib.Core.List.{List, [], _∷_}
 use lib.ListN.{length, getD}
 use Rattle.table.specs.declared.Slot.{Slot}
@@ -19,9 +20,9 @@ use Rattle.machine.specs.declared.CallOp.the-variants.{Do}
 use Rattle.machine.specs.declared.Went.the-variants.{Past}
 use Rattle.machine.specs.Limits.{mostOpen}
 use Rattle.machine.specs.Skeleton.{solid, bodyAt}
-use Rattle.machine.specs.Literal.{Code, bytesOf, holdingBy, holdingAt, operatorBy, foundBy, foundAt}
+use Rattle.machine.specs.Literal.{Code, bytesOf, Found, holdingBy, holdingAt, operatorBy, foundBy, foundAt}
 use Rattle.machine.specs.Contexts.{settle}
-use Rattle.machine.specs.Step.{execute, executed, step, run}
+use Rattle.machine.specs.Step.{execute, executed, begun, step, run}
 use Rattle.machine.proofs.Inside.{token-inside}
 use Rattle.state.specs.declared.Registers.{Registers}
 use Rattle.state.specs.Layout.{contextsOf, contextAt, contextIn, goesTo, aside, abs, Good, Busy, Done, Begun}
@@ -105,6 +106,9 @@ module _ (w w₁ : List ℕ) (r : Registers) (p at end : ℕ) (g : Good w r) (ru
 
 -- ---- a row and the step that ends it
 
+pub found-as : (f : Found) (n m : ℕ) → f .next ≡ n → m ≡ n → f ≡ record { literal = f .literal; next = m }
+found-as f n m e em = λ i. record { literal = f .literal; next = (e ∙ sym em) i }
+
 -- DO at a place
 pub do-found : (b : List ℕ) (at n next m : ℕ) → tokenAt b at ≡ read.Operator n next → n ≡ 231 → m ≡ solid b next → foundAt b at ≡ record { literal = Plain 231; next = m }
 unfolding foundAt foundBy operatorBy
@@ -141,7 +145,8 @@ module _ (code : Code) (b w w₁ : List ℕ) (r : Registers) (at most : ℕ) (t 
   bytes-row = rw (o .stays) eb
 
   -- a literal that is due after it
-  module _ {w₂ : List ℕ} {z : Registers} (x : Literal) (m : ℕ) (some : t .number ≡ 0 → ⊥) (found : foundAt b (t .at) ≡ record { literal = x; next = m }) (p : Paced code x m w₁ (after r most t true) w₂ z) where
+  module _ {w₂ : List ℕ} {z : Registers} (x : Literal) (m : ℕ) (on : run (most - t .left) code (ahead at (r .steps) (abs w (held r))) ≡ ahead (t .at) (r .steps + (most - t .left)) (abs w₁ (after r most t true)))
+      (found : foundAt b (t .at) ≡ record { literal = x; next = m }) (p : Paced code x m w₁ (after r most t true) w₂ z) where
     abbrev s : State
     s = abs w₁ (after r most t true)
 
@@ -150,7 +155,7 @@ module _ (code : Code) (b w w₁ : List ℕ) (r : Registers) (at most : ℕ) (t 
 
     one-more : run (suc (most - t .left)) code (abs w r) ≡ abs w₂ z
     one-more =
-        let here : run (most - t .left) code (abs w r) ≡ ahead (t .at) (r .steps + (most - t .left)) s = rw (start-ahead w r at ea) (o .here some) in
+        let here : run (most - t .left) code (abs w r) ≡ ahead (t .at) (r .steps + (most - t .left)) s = rw (start-ahead w r at ea) on in
         let c = contextAt (slots w₁) (r .depth - 1) in
         let cs = contextsOf (slots w₁) (r .depth - 1) in
         run-last code (most - t .left) (abs w r) (rw here (ended-ahead s c cs top (t .at) (r .steps + (most - t .left)))) ∙ ap (step code) here
@@ -172,6 +177,12 @@ module _ (code : Code) (b w w₁ : List ℕ) (r : Registers) (at most : ℕ) (t 
           runs = λ h. not-on h;
           executes = λ h. not-on h;
         })
+
+  -- the literal that is due after it fails
+  pub fails-row : (m : ℕ) → t .failed ≡ true → execute code (foundAt b (t .at) .literal) (begun m (abs w₁ (after r most t true))) ≡ none
+  fails-row m f =
+      ap (execute code (foundAt b (t .at) .literal)) (begun-is (abs w₁ (after r most t true)) (contextAt (slots w₁) (r .depth - 1)) (contextsOf (slots w₁) (r .depth - 1)) (contexts-top (slots w₁) (r .depth) runs) m)
+      ∙ o .falls f .1 m (suc (r .steps + (most - t .left)))
 
   -- the row ends its body, or before a literal that is left to others
   pub led-alights : {w₂ : List ℕ} {z : Registers} → Alighted (solid b (t .at)) w₁ (after r most t true) w₂ z → t .left < most → (k : Bool) → (k ≡ true → (z .ok ≡ true) × (0 < t .left)) → (r′ : Registers)

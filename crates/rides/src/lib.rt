@@ -1,12 +1,14 @@
-// A row of literals, and the step that ends it: the end of the body, or an operator that enters a body or passes over one, each in line. Any
-// other literal is left to `engine`.
+// A row of literals, and the step that ends it: the end of the body, a literal that fails, or an operator that enters a body or passes over one,
+// each in line. Any other literal is left to `engine`.
 ghost use mathlib.Core.Path.{_≡_};
 ghost use mathlib.Core.Bool.{true, false};
 ghost use mathlib.Core.List.{[], _∷_};
+ghost use mathlib.Core.Option.{none};
 ghost use Prim.Native.Nat.{ℕ, _+_, _-_, _<_, _≤_};
 ghost use types.Run.{OneOf};
 ghost use lib.ListN.{length};
 ghost use Rattle.table.specs.Slots.{slots};
+ghost use Rattle.machine.specs.declared.Literal.{Literal};
 ghost use Rattle.machine.specs.declared.Literal.the-variants.{Plain, WithBody};
 ghost use Rattle.machine.specs.declared.Went.the-variants.{Past};
 ghost use Rattle.machine.specs.Limits.{mostOpen};
@@ -14,9 +16,9 @@ ghost use Rattle.machine.specs.State.{running};
 ghost use Rattle.machine.specs.Skeleton.{solid, bodyAt};
 ghost use Rattle.machine.specs.Literal.{Code, bytesOf};
 ghost use Rattle.machine.specs.Engine.{inline};
-ghost use Rattle.machine.specs.Step.{execute};
+ghost use Rattle.machine.specs.Step.{execute, begun};
 ghost use Rattle.names.specs.Names.{both};
-ghost use Rattle.state.specs.Layout.{contextsOf, Good, Busy, Tried};
+ghost use Rattle.state.specs.Layout.{contextsOf, abs, Good, Busy, Tried};
 ghost use Rattle.origins.specs.Bodies.{Short, Noting};
 ghost use Rattle.sprints.specs.Swift.{origin, ending};
 ghost use Rattle.rides.specs.Rides.{Paced, Alighted, Led};
@@ -104,6 +106,17 @@ fn pace_do<'a>(w: &mut [u8], r: Registers, pre: &'a [u8], body: &'a [u8], next: 
     let mut q = r;
     q.steps = r.steps + 1;
     recovery::ends::fault(w, q)
+}
+
+// ---- a literal that fails
+
+// A step with a literal that fails, after which its body would go on at `next`.
+fn pace_fault(w: &mut [u8], r: Registers, next: usize) -> Registers
+    requires { ⌜ Good (now w) r × (0 < r .depth) × (r .steps < 4294967295) × (next < 4294967296) ⌝ }
+    ensures { λ q. ⌜ ((code : Code) (x : Literal) → execute code x (begun next (abs (now (w .entry)) r)) ≡ none → Paced code x next (now (w .entry)) r (now (w .exit)) q) ⌝ }
+{
+    let s = contexts::bodies::begin(w, r, table::words::word(next));
+    recovery::ends::fault(w, s)
 }
 
 // ---- operators that hold a body
@@ -274,6 +287,11 @@ pub fn ride<'a>(
     q.height = t.height;
     q.steps = r.steps + (most - t.left);
     q.ok = true;
+    if t.failed {
+        let mut z = pace_fault(w, q, nesting::bodies::past_comments(b, t.next));
+        z.ok = false;
+        return z;
+    }
     if t.number == 231 {
         let mut z = pace_do(w, q, pre, body, nesting::bodies::past_comments(b, t.next));
         z.ok = false;

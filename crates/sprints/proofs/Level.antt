@@ -19,7 +19,7 @@ use Rattle.machine.specs.State.{Entry, val, mark, Context, State, running}
 use Rattle.machine.specs.Literal.{Code}
 use Rattle.machine.specs.Operators.{popped}
 use Rattle.machine.specs.Contexts.{beneath, over}
-use Rattle.machine.specs.Engine.{limited, withContexts, values, withValues, pops, push, repeat, turn, worked, noted, storeIn, store, removeAt, remove, tallyAt, tally, does, affected}
+use Rattle.machine.specs.Engine.{limited, withContexts, values, withValues, pops, push, provided, repeat, turn, worked, noted, storeIn, store, removeAt, remove, tallyAt, tally, does, affected}
 use Rattle.machine.specs.Step.{effectAt, execute}
 use Rattle.machine.proofs.Changes.{OnSome, limited-on, provided-on}
 use Rattle.state.specs.declared.Registers.{Registers}
@@ -27,7 +27,7 @@ use Rattle.state.specs.Layout.{abs, answer, Tried}
 use Rattle.state.proofs.Parts.{length-contexts, length-values}
 use Rattle.state.proofs.Ending.{not-on}
 use Rattle.effects.proofs.Acting.{beneath-few}
-use Rattle.sprints.specs.Swift.{raised, Stays, Flat}
+use Rattle.sprints.specs.Swift.{raised, Stays, ahead, onto, Flat}
 use Rattle.sprints.proofs.Flatness.{flatWork, flatNext, flat}
 use Rattle.sprints.proofs.Ahead.{execute-free}
 
@@ -166,10 +166,10 @@ module _ {w w′ : List ℕ} {r : Registers} (code : Code) (x : Literal) (f : fl
   unfolding answer
   flat-made h few t =
       let l = level-of (execute code x (abs w r)) (level-execute code x (abs w r) f) (sym (t .does)) in
-      record { made = λ _. t; stays = record { low = λ _. l .low; here = λ _. l .here; ends = λ _. l .ends; keeps = λ _. t .keeps }; back = λ b. absurd (omega arith); free = λ _ p n. execute-free code p n x (abs w r) f }
+      record { made = λ _. t; stays = record { low = λ _. l .low; here = λ _. l .here; ends = λ _. l .ends; keeps = λ _. t .keeps }; back = λ b. absurd (omega arith); free = λ _ p n. execute-free code p n x (abs w r) f; fails = λ z. absurd (omega arith) }
 
-  by-ok : (h : ℕ) (p : Registers) (b : Bool) → p .ok ≡ b → (p .ok ≡ true → h ≡ p .height) × (p .ok ≡ false → h ≡ 129) → Tried (execute code x) w r w′ p → Flat (execute code x) w r w′ h
-  unfolding answer
+  by-ok : (h : ℕ) (p : Registers) (b : Bool) → p .ok ≡ b → (p .ok ≡ true → h ≡ p .height) × (p .ok ≡ false → h ≡ 130) → Tried (execute code x) w r w′ p → Flat (execute code x) w r w′ h
+  unfolding answer onto
   by-ok h p true o a t =
       let d : some (abs w′ p) ≡ execute code x (abs w r) = rw o at (t .does) in
       let l = level-of (execute code x (abs w r)) (level-execute code x (abs w r) f) (sym d) in
@@ -177,19 +177,42 @@ module _ {w w′ : List ℕ} {r : Registers} (code : Code) (x : Literal) (f : fl
       let used : p .used ≡ r .used = sym (length-values (slots w′) 728 (p .used)) ∙ l .cells ∙ length-values (slots w) 728 (r .used) in
       let e : p ≡ raised r h = registers-path r h (sym (a .0 o)) deep used (l .steps) (l .errors) (l .skipping) o in
       flat-made h (omega (arith, a .0 o, t .busy .stack-fits)) (rw e at t)
-  by-ok h p false o a t = record { made = λ b. absurd (omega (arith, a .1 o)); stays = stays-none h (omega (arith, a .1 o)); back = λ b. t .back o; free = λ b. absurd (omega (arith, a .1 o)) }
+  by-ok h p false o a t =
+      let d : none ≡ execute code x (abs w r) = rw o at (t .does) in
+      record {
+        made = λ b. absurd (omega (arith, a .1 o));
+        stays = stays-none h (omega (arith, a .1 o));
+        back = λ b. t .back o;
+        free = λ b. absurd (omega (arith, a .1 o));
+        fails = λ _ q n. execute-free code q n x (abs w r) f ∙ (rw (← d));
+      }
 
   -- the height that an operation answers
-  pub flat-of : (h : ℕ) (p : Registers) → (p .ok ≡ true → h ≡ p .height) × (p .ok ≡ false → h ≡ 129) → Tried (execute code x) w r w′ p → Flat (execute code x) w r w′ h
+  pub flat-of : (h : ℕ) (p : Registers) → (p .ok ≡ true → h ≡ p .height) × (p .ok ≡ false → h ≡ 130) → Tried (execute code x) w r w′ p → Flat (execute code x) w r w′ h
   flat-of h p a t = by-ok h p (p .ok) refl a t
 
 -- nothing done
-pub flat-undone : {f : State → Option State} {w : List ℕ} {r : Registers} (h : ℕ) → 128 < h → Flat f w r w h
-flat-undone h more = record { made = λ b. absurd (omega arith); stays = stays-none h more; back = λ b. refl; free = λ b. absurd (omega arith) }
+pub flat-undone : {f : State → Option State} {w : List ℕ} {r : Registers} (h : ℕ) → h ≡ 129 → Flat f w r w h
+flat-undone h z = record { made = λ b. absurd (omega arith); stays = stays-none h (omega arith); back = λ b. refl; free = λ b. absurd (omega arith); fails = λ b. absurd (omega arith) }
+
+-- an effect that fails
+provided-none : (b : Bool) → provided b none ≡ none
+unfolding provided
+provided-none true = refl
+provided-none false = refl
+
+execute-none : (code : Code) (x : Literal) (s : State) → Fail ≡ effectAt x s → execute code x s ≡ none
+unfolding execute affected
+execute-none code x s e = rw (← e) (provided-none _)
+
+pub flat-fails : {w : List ℕ} {r : Registers} (code : Code) (x : Literal) → Fail ≡ effectAt x (abs w r) → Flat (execute code x) w r w 130
+unfolding effectAt
+flat-fails {w} {r} code x e =
+    record { made = λ b. absurd (omega arith); stays = stays-none 130 (omega arith); back = λ b. refl; free = λ b. absurd (omega arith); fails = λ _ p n. execute-none code x (ahead p n (abs w r)) e }
 
 -- what the height tells of an operation
-pub tells-on : (b : Bool) (h : ℕ) → b ≡ true → (b ≡ true → h ≡ h) × (b ≡ false → h ≡ 129)
+pub tells-on : (b : Bool) (h : ℕ) → b ≡ true → (b ≡ true → h ≡ h) × (b ≡ false → h ≡ 130)
 tells-on b h e = (λ i. refl, λ i. not-on (sym i ∙ e))
 
-pub tells-off : (b : Bool) (k h : ℕ) → k ≡ 129 → b ≡ false → (b ≡ true → k ≡ h) × (b ≡ false → k ≡ 129)
+pub tells-off : (b : Bool) (k h : ℕ) → k ≡ 130 → b ≡ false → (b ≡ true → k ≡ h) × (b ≡ false → k ≡ 130)
 tells-off b k h u e = (λ i. not-on (sym e ∙ i), λ i. u)

@@ -5,6 +5,7 @@ use native.Mathlib.Omega.{arith}
 use mathlib.Core.Path.{_≡_, refl, sym, ap, _∙_}
 use mathlib.Core.Bool.{Bool, true, false, not}
 use mathlib.Core.List.{List, []}
+use mathlib.Core.Option.{none}
 use borrow.Author.Tests.{leb-false}
 use lib.Dec.{leb}
 use lib.ListN.{length, getD}
@@ -119,15 +120,15 @@ strides-none at p t e =
     record {
       stays = stays-none _ (omega (arith, h));
       back = λ _. refl;
-      token = λ k. absurd (omega (arith, h));
-      next = λ k. absurd (omega (arith, h));
-      inside = λ k. absurd (omega (arith, h));
+      token = λ k. absurd (k h);
+      next = λ k. absurd (k h);
+      inside = λ k. absurd (k h);
       told = λ k. absurd (k (ap (λ (x : Stride). x .number) e));
-      does = λ k. absurd (omega (arith, h));
+      does = λ k. absurd (k h);
     }
 
 module _ {b w w′ : List ℕ} {r : Registers} (at h next m n : ℕ) (x : Literal) where
-  pub strides-of : (h ≤ 128 → foundAt b at ≡ record { literal = x; next = m }) → m ≡ solid b next → next ≤ length b → NoComment (tokenAt b at) → ((n ≡ 0 → ⊥) → tokenAt b at ≡ read.Operator n next) → ((code : Code) → Flat (execute code x) w r w′ h)
+  pub strides-of : ((h ≡ 129 → ⊥) → foundAt b at ≡ record { literal = x; next = m }) → m ≡ solid b next → next ≤ length b → NoComment (tokenAt b at) → ((n ≡ 0 → ⊥) → tokenAt b at ≡ read.Operator n next) → ((code : Code) → Flat (execute code x) w r w′ h)
       → Strides b at w r w′ (record { height = h; next = next; number = n })
   strides-of found em i nc told f =
       record {
@@ -139,6 +140,9 @@ module _ {b w w′ : List ℕ} {r : Registers} (at h next m n : ℕ) (x : Litera
         told = told;
         does = λ k code. rw (found k) (f code);
       }
+
+pub fallen : (h : ℕ) → h ≡ 130 → h ≡ 129 → ⊥
+fallen h e z = omega arith
 
 -- ---- a row
 
@@ -155,12 +159,13 @@ module _ (code : Code) (b w : List ℕ) (r : Registers) (p n k : ℕ) (S : State
       let c = contextAt m (r .depth - 1) in
       let cs = contextsOf m (r .depth - 1) in
       let top = contexts-top m (r .depth) runs in
-      let here = on (d .token few) in
-      let f = d .does few code in
+      let done : t .height ≡ 129 → ⊥ = λ z. omega arith in
+      let here = on (d .token done) in
+      let f = d .does done code in
       let z : suc (n + k) ≡ n + suc k = omega arith in
       let a : run (suc k) code S ≡ step code (run k code S) = run-last code k S (rw here (ended-ahead (abs w r) c cs top p (n + k))) in
       let e = step-ahead (abs w r) c cs top code b p (n + k) (foundAt b p .next) (foundAt b p .literal) eb refl quiet (abs w′ (raised r (t .height))) (f .free few _ _) (sym (f .made few .does)) in
-      a ∙ ap (step code) here ∙ e ∙ (rw (d .next few, z))
+      a ∙ ap (step code) here ∙ e ∙ (rw (d .next done, z))
 
   -- a literal that is due, where no comment stands
   row-on : run k code S ≡ settle (ahead (solid b p) (n + k) (abs w r)) → p < ending w (r .depth) → NoComment (tokenAt b p) → run k code S ≡ ahead p (n + k) (abs w r)
@@ -213,8 +218,9 @@ module _ {b w₀ w : List ℕ} {r₀ r : Registers} {at most clear p left : ℕ}
   not-yet e = ap (λ (x : Registers). x .ok) (o .same) ∙ e
 
   -- the row ends before the literal at p, an operator or none
-  pub rolling-stop : {w′ : List ℕ} (k next : ℕ) → ((k ≡ 0 → ⊥) → NoComment (tokenAt b p)) → w′ ≡ w → (code : Code) (n : ℕ) → b ≡ bytesOf code (origin w₀ (r₀ .depth)) → Rowed code b at n most w₀ r₀ w′ (record { height = r .height; left = left; at = p; number = k; next = next })
-  rolling-stop {w′} k next nc e code n eb =
+  pub rolling-stop : {w′ : List ℕ} (f : Bool) (k next : ℕ) → ((k ≡ 0 → ⊥) → NoComment (tokenAt b p)) → (f ≡ true → NoComment (tokenAt b p) × ((code : Code) (q m : ℕ) → execute code (foundAt b p .literal) (ahead q m (abs w r)) ≡ none))
+      → w′ ≡ w → (code : Code) (n : ℕ) → b ≡ bytesOf code (origin w₀ (r₀ .depth)) → Rowed code b at n most w₀ r₀ w′ (record { height = r .height; left = left; at = p; failed = f; number = k; next = next })
+  rolling-stop {w′} f k next nc fa e code n eb =
       rw e
       (record {
         fits = o .busy .stack-fits;
@@ -224,10 +230,14 @@ module _ {b w₀ w : List ℕ} {r₀ r : Registers} {at most clear p left : ℕ}
         ends = o .ends;
         idle = o .idle;
         here = λ h. rw (← (o .same)) (o .on code n eb (nc h));
+        falls = λ h. rw (← (o .same)) (o .on code n eb (fa h .0), fa h .1 code);
         does = λ h. rw (← (o .same)) (o .off code n eb h);
       })
 
   module _ {w′ : List ℕ} (t : Stride) (d : Strides b p w r w′ t) (few : t .height ≤ 128) (more : 0 < left) where
+    done : t .height ≡ 129 → ⊥
+    done z = omega arith
+
     rolled : (code : Code) (n : ℕ) → b ≡ bytesOf code (origin w₀ (r₀ .depth)) → run (most - (left - 1)) code (ahead at n (abs w₀ r₀)) ≡ settle (ahead (solid b (t .next)) (n + (most - (left - 1))) (abs w′ (lifted r (t .height))))
     rolled code n eb =
         let z : most - (left - 1) ≡ suc (most - left) = omega (arith, o .within) in
@@ -247,7 +257,7 @@ module _ {b w₀ w : List ℕ} {r₀ r : Registers} {at most clear p left : ℕ}
     pub rolling-on : length w′ ≡ length w → t .next < ending w₀ (r₀ .depth) → Rolling b at most clear w₀ r₀ w′ (lifted r (t .height)) (t .next) (left - 1)
     rolling-on long goes =
         record {
-          busy = busy-as r (t .height) (d .does few [] .made few .busy);
+          busy = busy-as r (t .height) (d .does done [] .made few .busy);
           same = anew;
           long = long ∙ o .long;
           keeps = d .stays .keeps few ∙ o .keeps;
@@ -256,7 +266,7 @@ module _ {b w₀ w : List ℕ} {r₀ r : Registers} {at most clear p left : ℕ}
           low = omega (arith, d .stays .low few, o .low);
           within = omega (arith, o .within);
           idle = λ h. absurd (omega (arith, o .within));
-          inside = λ h. d .inside few;
+          inside = λ h. d .inside done;
           on =
               λ code n eb nc.
               row-on code b w′ (lifted r (t .height)) (t .next) n (most - (left - 1)) (ahead at n (abs w₀ r₀)) (o .busy .runs) still (rolled code n eb) (rw deep (omega (arith, goes, ends-there))) nc;
@@ -264,7 +274,7 @@ module _ {b w₀ w : List ℕ} {r₀ r : Registers} {at most clear p left : ℕ}
         }
 
     -- the literal at p done: the row ends
-    pub rolling-ends : length w′ ≡ length w → (code : Code) (n : ℕ) → b ≡ bytesOf code (origin w₀ (r₀ .depth)) → Rowed code b at n most w₀ r₀ w′ (record { height = t .height; left = left - 1; at = t .next; number = 0; next = t .next })
+    pub rolling-ends : length w′ ≡ length w → (code : Code) (n : ℕ) → b ≡ bytesOf code (origin w₀ (r₀ .depth)) → Rowed code b at n most w₀ r₀ w′ (record { height = t .height; left = left - 1; at = t .next; failed = false; number = 0; next = t .next })
     rolling-ends long code n eb =
         record {
           fits = few;
@@ -274,5 +284,6 @@ module _ {b w₀ w : List ℕ} {r₀ r : Registers} {at most clear p left : ℕ}
           ends = ends-there;
           idle = λ h. absurd (omega (arith, o .within));
           here = λ h. absurd (h refl);
+          falls = λ h. not-on h;
           does = λ h. rw (← anew) (rolled code n eb);
         }

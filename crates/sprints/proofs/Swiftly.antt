@@ -6,14 +6,16 @@ use mathlib.Core.Bool.{Bool, true, false, cond, not, _&&_, _||_}
 use mathlib.Core.Logic.{inl, inr}
 use mathlib.Core.List.{List, [], _∷_}
 use mathlib.Core.Option.{none, some}
-use types.Run.{OneOf}
+use types.Run.{OneOf, miss}
 use borrow.Author.Tests.{le-leb, eqb-true, ltb-true, ltb-false}
 use lib.Dec.{eqb, ltb}
 use lib.IntN.{pos, _-ℤ_}
 use lib.ListN.{length, getD}
 use Rattle.numbers.specs.declared.Number as num
 use Rattle.numbers.specs.declared.Answer.{Answer}
-use Rattle.numbers.specs.declared.Answer.the-variants.{Is}
+use Rattle.numbers.specs.declared.Answer.the-variants.{Is, TooLarge, ByZero}
+use Rattle.numbers.proofs.Answer.{the-type as answer-type}
+use denote.Enum.Declared.{tagOf}
 use Rattle.numbers.specs.Arith.{sumOf, differenceOf, productOf, quotientOf}
 use Rattle.table.specs.declared.Slot.{Slot}
 use Rattle.table.specs.Slots.{slots}
@@ -29,7 +31,7 @@ use Rattle.machine.specs.declared.Role.the-variants as role
 use Rattle.machine.specs.declared.Literal.{Literal}
 use Rattle.machine.specs.declared.Literal.the-variants.{Figure, Name, Plain}
 use Rattle.machine.specs.declared.Effect.{Effect}
-use Rattle.machine.specs.declared.Effect.the-variants.{Gives, Acts}
+use Rattle.machine.specs.declared.Effect.the-variants.{Fail, Gives, Acts}
 use Rattle.machine.specs.declared.Next.the-variants.{Works, Remove, Tally}
 use Rattle.machine.specs.declared.Work.the-variants.{Nothing, Repeat, Turn}
 use Rattle.machine.specs.declared.Op.{Op}
@@ -78,7 +80,7 @@ use Rattle.state.specs.Operations as table
 
 module _ {w w′ : List ℕ} {r q r′ : Registers} (code : Code) (n a : ℕ) (o : Op) (t : Tops) (g : Busy w r) (eo : o ≡ opOf n) (ea : (a ≡ arityOf o) × (a ≤ 2)) (et : Topmost (above (stackOf (slots w) (r .height))) t)
     (x y : Value) (e : Effect) (h : a ≤ t .count) (ex : x ≡ valueIn (t .first)) (ey : y ≡ valueIn (t .second)) (ee : e ≡ effectOf o x y) (eq : q ≡ trying r (r .height - a) (r .depth) (r .used) (r .ok)) (d : Tried (affected code e) w q w′ r′) where
-  pub plain-flat : (k : ℕ) → flat e ≡ true → (r′ .ok ≡ true → k ≡ r′ .height) × (r′ .ok ≡ false → k ≡ 129) → Flat (execute code (Plain n)) w r w′ k
+  pub plain-flat : (k : ℕ) → flat e ≡ true → (r′ .ok ≡ true → k ≡ r′ .height) × (r′ .ok ≡ false → k ≡ 130) → Flat (execute code (Plain n)) w r w′ k
   plain-flat k f i = flat-of code (Plain n) (rw (← (plain-effect code n a o t g eo ea et x y e h ex ey ee)) f) k r′ i (plain-done code n a o t g eo ea et x y e h ex ey ee eq d)
 
 -- ---- a literal, by its kind
@@ -173,6 +175,13 @@ module _ (n : ℕ) (a b : num.Number) (r : Answer) where
   pub gives-number : (c : num.Number) (x y : Value) → r ≡ Is c → x ≡ Number b → y ≡ Number a → answered r ≡ effectOf (opOf n) (Number b) (Number a) → Gives c ≡ effectOf (opOf n) x y
   unfolding answered
   gives-number c x y e ex ey i = rw (ex, ey) (rw e at i)
+
+-- or that there is none
+pub fails-number : (n : ℕ) (a b : num.Number) (r : Answer) (x y : Value) → OneOf (1 ∷ 2 ∷ []) (tagOf answer-type r) → x ≡ Number b → y ≡ Number a → answered r ≡ effectOf (opOf n) (Number b) (Number a) → Fail ≡ effectOf (opOf n) x y
+unfolding answered
+fails-number n a b (Is c) x y k ex ey i = absurd (miss (1 ∷ 2 ∷ []) 0 tt k)
+fails-number n a b TooLarge x y k ex ey i = rw (ex, ey) i
+fails-number n a b ByZero x y k ex ey i = rw (ex, ey) i
 
 pub sums-two : (n : ℕ) → OneOf (201 ∷ 204 ∷ 210 ∷ 214 ∷ []) n → (2 ≡ arityOf (opOf n)) × (2 ≤ 2)
 unfolding arityOf arithArity
@@ -304,18 +313,18 @@ module _ {w w′ : List ℕ} {r : Registers} (code : Code) where
   pub is-unmark : (n : ℕ) (p : Registers) → n ≡ 192 → Tried (remove 0) w r w′ p → Tried (execute code (Plain n)) w r w′ p
   is-unmark n p e t = rw e (at-once 192 (Acts (Remove 0)) (pops-none .3) (λ x y. own-part x y .3) (removes t))
 
-  module _ (n h : ℕ) (p : Registers) (a : (p .ok ≡ true → h ≡ p .height) × (p .ok ≡ false → h ≡ 129)) where
-    pub is-dup : n ≡ 181 → Tried (repeat 1) w r w′ p → Flat (execute code (Plain n)) w r w′ h × (h ≤ 128 → roleOf n ≡ role.Plain)
+  module _ (n h : ℕ) (p : Registers) (a : (p .ok ≡ true → h ≡ p .height) × (p .ok ≡ false → h ≡ 130)) where
+    pub is-dup : n ≡ 181 → Tried (repeat 1) w r w′ p → Flat (execute code (Plain n)) w r w′ h × ((h ≡ 129 → ⊥) → roleOf n ≡ role.Plain)
     is-dup e t =
         rw e
         (flat-of code (Plain 181) (once-flat 181 (Acts (Works (Repeat 1))) (λ x y. own-part x y .0) (abs w r) refl) h p a (at-once 181 (Acts (Works (Repeat 1))) (pops-none .0) (λ x y. own-part x y .0) (repeats t)), λ _. op-role 181 (OnStack Dup) (by-number .3) refl)
 
-    pub is-exch : n ≡ 185 → Tried (turn 2 1) w r w′ p → Flat (execute code (Plain n)) w r w′ h × (h ≤ 128 → roleOf n ≡ role.Plain)
+    pub is-exch : n ≡ 185 → Tried (turn 2 1) w r w′ p → Flat (execute code (Plain n)) w r w′ h × ((h ≡ 129 → ⊥) → roleOf n ≡ role.Plain)
     is-exch e t =
         rw e
         (flat-of code (Plain 185) (once-flat 185 (Acts (Works (Turn 2 1))) (λ x y. own-part x y .4) (abs w r) refl) h p a (at-once 185 (Acts (Works (Turn 2 1))) (pops-none .4) (λ x y. own-part x y .4) (turns t)), λ _. op-role 185 (OnStack Exch) (by-number .12) refl)
 
-    pub is-count : n ≡ 188 → Tried tally w r w′ p → Flat (execute code (Plain n)) w r w′ h × (h ≤ 128 → roleOf n ≡ role.Plain)
+    pub is-count : n ≡ 188 → Tried tally w r w′ p → Flat (execute code (Plain n)) w r w′ h × ((h ≡ 129 → ⊥) → roleOf n ≡ role.Plain)
     is-count e t =
         rw e
         (flat-of code (Plain 188) (once-flat 188 (Acts Tally) (λ x y. own-part x y .1) (abs w r) refl) h p a (at-once 188 (Acts Tally) (pops-none .1) (λ x y. own-part x y .1) (tallies t)), λ _. op-role 188 (OnStack Count) (by-number .4) refl)
@@ -329,7 +338,7 @@ pop-flat {w} {r} code t g et h k =
     (plain-done code 180 1 (OnStack Pop) t g (by-number .2) pop-one et (valueIn (t .first)) (valueIn (t .second)) (Acts (Works Nothing)) h refl refl (pop-effect (valueIn (t .first)) (valueIn (t .second))) refl
     (rests code (nothing-done code (busy-lower 1 g refl) refl)))
 
-pub is-nop : {w : List ℕ} {r : Registers} (code : Code) (n : ℕ) → Busy w r → n ≡ 1 → Flat (execute code (Plain n)) w r w (r .height) × (r .height ≤ 128 → roleOf n ≡ role.Plain)
+pub is-nop : {w : List ℕ} {r : Registers} (code : Code) (n : ℕ) → Busy w r → n ≡ 1 → Flat (execute code (Plain n)) w r w (r .height) × ((r .height ≡ 129 → ⊥) → roleOf n ≡ role.Plain)
 is-nop {w} {r} code n g e =
     rw e
     (flat-made code (Plain 1) (once-flat 1 (Acts (Works Nothing)) (λ x y. own-part x y .2) (abs w r) refl) (r .height) (g .stack-fits) (at-once code 1 (Acts (Works Nothing)) (pops-none .2) (λ x y. own-part x y .2) (rests code (nothing-done code g refl))), λ _. op-role 1 (OnStack Nop) (by-number .5) refl)
@@ -340,30 +349,30 @@ quiet-is r still undone = λ i. record { height = r .height; depth = r .depth; u
 
 -- the others by number
 module _ {w w′ : List ℕ} {r : Registers} (code : Code) (n h : ℕ) where
-  pub is-pop : n ≡ 180 → Flat (execute code (Plain 180)) w r w′ h → Flat (execute code (Plain n)) w r w′ h × (h ≤ 128 → roleOf n ≡ role.Plain)
+  pub is-pop : n ≡ 180 → Flat (execute code (Plain 180)) w r w′ h → Flat (execute code (Plain n)) w r w′ h × ((h ≡ 129 → ⊥) → roleOf n ≡ role.Plain)
   is-pop e t = rw e (t, λ _. op-role 180 (OnStack Pop) (by-number .2) refl)
 
   module _ (o : Op) (k : known o ≡ true) (t : (c : Code) (m : ℕ) → o ≡ opOf m → Flat (execute c (Plain m)) w r w′ h) where
-    by-op : o ≡ opOf n → Flat (execute code (Plain n)) w r w′ h × (h ≤ 128 → roleOf n ≡ role.Plain)
+    by-op : o ≡ opOf n → Flat (execute code (Plain n)) w r w′ h × ((h ≡ 129 → ⊥) → roleOf n ≡ role.Plain)
     by-op e = (t code n e, λ _. op-role n o e k)
 
-  pub is-fget : n ≡ 20 → ((c : Code) (m : ℕ) → OnFrame Fget ≡ opOf m → Flat (execute c (Plain m)) w r w′ h) → Flat (execute code (Plain n)) w r w′ h × (h ≤ 128 → roleOf n ≡ role.Plain)
+  pub is-fget : n ≡ 20 → ((c : Code) (m : ℕ) → OnFrame Fget ≡ opOf m → Flat (execute c (Plain m)) w r w′ h) → Flat (execute code (Plain n)) w r w′ h × ((h ≡ 129 → ⊥) → roleOf n ≡ role.Plain)
   is-fget e t = by-op (OnFrame Fget) refl t (rw e (by-number .0))
 
-  pub is-fset : n ≡ 21 → ((c : Code) (m : ℕ) → OnFrame Fset ≡ opOf m → Flat (execute c (Plain m)) w r w′ h) → Flat (execute code (Plain n)) w r w′ h × (h ≤ 128 → roleOf n ≡ role.Plain)
+  pub is-fset : n ≡ 21 → ((c : Code) (m : ℕ) → OnFrame Fset ≡ opOf m → Flat (execute c (Plain m)) w r w′ h) → Flat (execute code (Plain n)) w r w′ h × ((h ≡ 129 → ⊥) → roleOf n ≡ role.Plain)
   is-fset e t = by-op (OnFrame Fset) refl t (rw e (by-number .1))
 
-  pub is-test : (o : TestOp) → Tests o ≡ opOf n → ((c : Code) (m : ℕ) → Tests o ≡ opOf m → Flat (execute c (Plain m)) w r w′ h) → Flat (execute code (Plain n)) w r w′ h × (h ≤ 128 → roleOf n ≡ role.Plain)
+  pub is-test : (o : TestOp) → Tests o ≡ opOf n → ((c : Code) (m : ℕ) → Tests o ≡ opOf m → Flat (execute c (Plain m)) w r w′ h) → Flat (execute code (Plain n)) w r w′ h × ((h ≡ 129 → ⊥) → roleOf n ≡ role.Plain)
   is-test o e t = by-op (Tests o) refl t e
 
   module _ (still : r .skipping ≡ false) (undone : r .ok ≡ false) where
-    pub is-get : n ≡ 17 → ((c : Code) (m : ℕ) → OnVectors Get ≡ opOf m → Flat (execute c (Plain m)) w (quiet (r .height) (r .depth) (r .used) (r .steps) (r .errors)) w′ h) → Flat (execute code (Plain n)) w r w′ h × (h ≤ 128 → roleOf n ≡ role.Plain)
+    pub is-get : n ≡ 17 → ((c : Code) (m : ℕ) → OnVectors Get ≡ opOf m → Flat (execute c (Plain m)) w (quiet (r .height) (r .depth) (r .used) (r .steps) (r .errors)) w′ h) → Flat (execute code (Plain n)) w r w′ h × ((h ≡ 129 → ⊥) → roleOf n ≡ role.Plain)
     is-get e t = by-op (OnVectors Get) refl (λ c m i. rw (quiet-is r still undone) (t c m i)) (rw e (by-number .18))
 
-    pub is-shape : n ≡ 285 → ((c : Code) (m : ℕ) → OnVectors Shape ≡ opOf m → Flat (execute c (Plain m)) w (quiet (r .height) (r .depth) (r .used) (r .steps) (r .errors)) w′ h) → Flat (execute code (Plain n)) w r w′ h × (h ≤ 128 → roleOf n ≡ role.Plain)
+    pub is-shape : n ≡ 285 → ((c : Code) (m : ℕ) → OnVectors Shape ≡ opOf m → Flat (execute c (Plain m)) w (quiet (r .height) (r .depth) (r .used) (r .steps) (r .errors)) w′ h) → Flat (execute code (Plain n)) w r w′ h × ((h ≡ 129 → ⊥) → roleOf n ≡ role.Plain)
     is-shape e t = by-op (OnVectors Shape) refl (λ c m i. rw (quiet-is r still undone) (t c m i)) (rw e (by-number .19))
 
-  pub is-reckon : OneOf (201 ∷ 204 ∷ 210 ∷ 214 ∷ []) n → ((c : Code) → Flat (execute c (Plain n)) w r w′ h) → Flat (execute code (Plain n)) w r w′ h × (h ≤ 128 → roleOf n ≡ role.Plain)
+  pub is-reckon : OneOf (201 ∷ 204 ∷ 210 ∷ 214 ∷ []) n → ((c : Code) → Flat (execute c (Plain n)) w r w′ h) → Flat (execute code (Plain n)) w r w′ h × ((h ≡ 129 → ⊥) → roleOf n ≡ role.Plain)
   is-reckon o t = (t code, λ _. op-role n (opOf n) refl (sums-known n o))
 
 -- ---- the literal at a place

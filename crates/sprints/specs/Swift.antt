@@ -63,12 +63,13 @@ unfoldable pub onto : ℕ → ℕ → Option State → Option State
 onto p n none = none
 onto p n (some s) = some (ahead p n s)
 
--- what means f done within a step: it leaves the stack h high, whatever the place and the steps
+-- what means f done within a step: it leaves the stack h high, whatever the place and the steps; 130 says that it fails, 129 nothing
 pub record Flat (f : State → Option State) (w : List ℕ) (r : Registers) (w′ : List ℕ) (h : ℕ) : Type 0 where
   pub made : h ≤ mostEntries → Tried f w r w′ (raised r h)
   pub stays : Stays w r w′ h
   pub back : mostEntries < h → w′ ≡ w
   pub free : h ≤ mostEntries → (p n : ℕ) → f (ahead p n (abs w r)) ≡ onto p n (f (abs w r))
+  pub fails : h ≡ 130 → (p n : ℕ) → f (ahead p n (abs w r)) ≡ none
 
 -- the registers after a step that leaves the stack so high
 abbrev pub stepped : Registers → ℕ → Registers
@@ -101,11 +102,11 @@ pub record Attempted (code : Code) (w : List ℕ) (r : Registers) (w′ : List �
 pub record Strides (b : List ℕ) (at : ℕ) (w : List ℕ) (r : Registers) (w′ : List ℕ) (t : Stride) : Type 0 where
   pub stays : Stays w r w′ (t .height)
   pub back : mostEntries < t .height → w′ ≡ w
-  pub token : t .height ≤ mostEntries → NoComment (tokenAt b at)
-  pub next : t .height ≤ mostEntries → foundAt b at .next ≡ solid b (t .next)
-  pub inside : t .height ≤ mostEntries → t .next ≤ length b
+  pub token : (t .height ≡ 129 → ⊥) → NoComment (tokenAt b at)
+  pub next : (t .height ≡ 129 → ⊥) → foundAt b at .next ≡ solid b (t .next)
+  pub inside : (t .height ≡ 129 → ⊥) → t .next ≤ length b
   pub told : (t .number ≡ 0 → ⊥) → tokenAt b at ≡ read.Operator (t .number) (t .next)
-  pub does : t .height ≤ mostEntries → (code : Code) → Flat (execute code (foundAt b at .literal)) w r w′ (t .height)
+  pub does : (t .height ≡ 129 → ⊥) → (code : Code) → Flat (execute code (foundAt b at .literal)) w r w′ (t .height)
 
 -- the registers r with another height
 abbrev pub lifted : Registers → ℕ → Registers
@@ -120,4 +121,5 @@ pub record Rowed (code : Code) (b : List ℕ) (at n most : ℕ) (w : List ℕ) (
   pub ends : ending w′ (r .depth) ≡ ending w (r .depth)
   pub idle : t .left ≡ most → (w′ ≡ w) × (t .height ≡ r .height)
   pub here : (t .number ≡ 0 → ⊥) → run (most - t .left) code (ahead at n (abs w r)) ≡ ahead (t .at) (n + (most - t .left)) (abs w′ (lifted r (t .height)))
+  pub falls : t .failed ≡ true → (run (most - t .left) code (ahead at n (abs w r)) ≡ ahead (t .at) (n + (most - t .left)) (abs w′ (lifted r (t .height)))) × ((p k : ℕ) → execute code (foundAt b (t .at) .literal) (ahead p k (abs w′ (lifted r (t .height)))) ≡ none)
   pub does : t .left < most → run (most - t .left) code (ahead at n (abs w r)) ≡ settle (ahead (solid b (t .at)) (n + (most - t .left)) (abs w′ (lifted r (t .height))))

@@ -1,6 +1,6 @@
 // The literals that masters are mostly made of: numbers of two bytes, and the operators met most of those that leave cells and contexts as
-// they are; and longer numbers and names. Several in a row are executed here, the height of the stack in hand. Nothing here fails: what is
-// not done here is left undone, for `engine`.
+// they are; and longer numbers and names. Several in a row are executed here, the height of the stack in hand. What is not done
+// here is left undone, for `rides` and `engine`; of a literal that fails it is told that it does.
 ghost use mathlib.Core.Path.{_≡_};
 ghost use mathlib.Core.Bool.{true, false};
 ghost use Prim.Native.Nat.{ℕ, _+_, _<_, _≤_};
@@ -11,10 +11,10 @@ ghost use Rattle.machine.specs.declared.Literal.the-variants.{Plain};
 ghost use Rattle.machine.specs.declared.Role.the-variants as role;
 ghost use Rattle.machine.specs.declared.Op.the-variants.{OnVectors, OnFrame, Tests};
 ghost use Rattle.machine.specs.declared.Value.the-variants as value;
-ghost use Rattle.machine.specs.Skeleton.{roleOf};
+ghost use Rattle.machine.specs.Skeleton.{roleOf, solid};
 ghost use Rattle.machine.specs.Operators.{opOf, arityOf, effectOf};
 ghost use Rattle.machine.specs.Operand.{answered};
-ghost use Rattle.machine.specs.Literal.{Code, bytesOf};
+ghost use Rattle.machine.specs.Literal.{Code, bytesOf, foundAt};
 ghost use Rattle.machine.specs.Step.{execute};
 ghost use Rattle.tokens.specs.declared.Read.the-variants as read;
 ghost use Rattle.tokens.specs.Token.{tokenAt};
@@ -40,29 +40,33 @@ pub struct Stride {
     pub number: u16,
 }
 
-// Where a row of literals has come to: the height of the stack, the steps that are left, the place. `number` is the operator there that
-// was left undone, and `next` where it ends; 0 says nothing of what stands there.
+// Where a row of literals has come to: the height of the stack, the steps that are left, the place. `failed`: the literal there fails, and
+// ends at `next`. `number` is the operator there that was left undone, and `next` where it ends; 0 says nothing of what stands there.
 pub struct Reach {
     pub height: usize,
     pub left: usize,
     pub at: usize,
+    pub failed: bool,
     pub number: u16,
     pub next: usize,
 }
 
 const NO_OPERATOR: u16 = 0;
 
-// More than the stack can hold: nothing was done.
+// Heights that the stack cannot have. Nothing was done, and nothing is said of the literal:
 const UNDONE: usize = 129;
+
+// nothing was done, since the literal fails.
+const FAILED: usize = 130;
 
 // The height after an operation.
 fn height_of(p: Registers) -> usize
-    ensures { λ h. ⌜ (p .ok ≡ true → h ≡ p .height) × (p .ok ≡ false → h ≡ 129) ⌝ }
+    ensures { λ h. ⌜ (p .ok ≡ true → h ≡ p .height) × (p .ok ≡ false → h ≡ 130) ⌝ }
 {
     if p.ok {
         return p.height;
     }
-    UNDONE
+    FAILED
 }
 
 // ---- the operators met most
@@ -136,7 +140,7 @@ fn reckon(w: &mut [u8], r: Registers, n: u16) -> usize
                 q.height = r.height - 2;
                 match two_numbers(n, a, b) {
                     Answer::Is(c) => height_of(state::stack::push_number(w, q, c)),
-                    _ => UNDONE,
+                    _ => FAILED,
                 }
             }
             _ => UNDONE,
@@ -228,7 +232,7 @@ fn look(
 // An operator. No mark stands at the height `clear` or above.
 fn operate(w: &mut [u8], r: Registers, n: u16, clear: usize) -> usize
     requires { ⌜ Busy (now w) r × (r .skipping ≡ false) × (r .ok ≡ false) × (marked (now w) (r .height) ≤ clear) ⌝ }
-    ensures { λ h. ⌜ ((code : Code) → Flat (execute code (Plain n)) (now (w .entry)) r (now (w .exit)) h × (h ≤ 128 → roleOf n ≡ role.Plain)) ⌝ }
+    ensures { λ h. ⌜ ((code : Code) → Flat (execute code (Plain n)) (now (w .entry)) r (now (w .exit)) h × ((h ≡ 129 → ⊥) → roleOf n ≡ role.Plain)) ⌝ }
 {
     match n {
         1 => r.height,
@@ -345,7 +349,7 @@ pub fn row(
     clear: usize,
 ) -> Reach
     requires { ⌜ (length (now b) ≤ 16777215) × Busy (now w) start × (start .skipping ≡ false) × (start .ok ≡ false) × (end ≡ ending (now w) (start .depth)) × (marked (now w) (start .height) ≤ clear) ⌝ }
-    ensures { λ t. ⌜ (t .left ≤ most) × (t .left < most → t .at ≤ length (now (b .entry))) × ((t .number ≡ 0 → ⊥) → (0 < t .left) × (tokenAt (now (b .entry)) (t .at) ≡ read.Operator (t .number) (t .next))) × ((code : Code) (n : ℕ) → now (b .entry) ≡ bytesOf code (origin (now (w .entry)) (start .depth)) → Rowed code (now (b .entry)) at n most (now (w .entry)) start (now (w .exit)) t) ⌝ }
+    ensures { λ t. ⌜ (t .left ≤ most) × (t .left < most → t .at ≤ length (now (b .entry))) × ((t .number ≡ 0 → ⊥) → (0 < t .left) × (tokenAt (now (b .entry)) (t .at) ≡ read.Operator (t .number) (t .next))) × (t .failed ≡ true → (0 < t .left) × (foundAt (now (b .entry)) (t .at) .next ≡ solid (now (b .entry)) (t .next)) × (t .next ≤ length (now (b .entry)))) × ((code : Code) (n : ℕ) → now (b .entry) ≡ bytesOf code (origin (now (w .entry)) (start .depth)) → Rowed code (now (b .entry)) at n most (now (w .entry)) start (now (w .exit)) t) ⌝ }
 {
     let mut r = start;
     let mut p = at;
@@ -357,6 +361,7 @@ pub fn row(
                 height: r.height,
                 left,
                 at: p,
+                failed: t.height == FAILED,
                 number: t.number,
                 next: t.next,
             };
@@ -369,6 +374,7 @@ pub fn row(
                 height: r.height,
                 left,
                 at: p,
+                failed: false,
                 number: NO_OPERATOR,
                 next: p,
             };
@@ -378,6 +384,7 @@ pub fn row(
         height: r.height,
         left,
         at: p,
+        failed: false,
         number: NO_OPERATOR,
         next: p,
     }

@@ -1,5 +1,5 @@
 -- `operate` meets its contract. Assumes nothing.
-use native.Mathlib.Omega.{arith}
+use mathlib.Core.Path.{refl}
 use mathlib.Core.Logic.{⊎-elim}
 use Rattle.sprints.proofs.Level.{flat-undone}
 use Rattle.sprints.proofs.Swiftly.{of-three, of-two, is-nop, is-fget, is-fset, is-pop, is-dup, is-exch, is-count, is-reckon, is-test, is-get, is-shape}
@@ -44,7 +44,7 @@ operate-spec =
     (λ c. λ code. is-get code _ _ (c .before .before .before .before .before .before .pre .1) (c .before .before .before .before .before .before .pre .2) (c .before .before .before .before .match .keys10) (c .before .before .look .ensures))
     (λ c. search needs)
     (λ c. λ code. is-shape code _ _ (c .before .before .before .before .before .before .pre .1) (c .before .before .before .before .before .before .pre .2) (c .before .before .before .before .match .keys11) (c .before .before .look2 .ensures))
-    (λ c. λ code. (flat-undone _ (omega arith), λ h. absurd (omega arith)))
-    (λ c. λ code. (flat-undone _ (omega arith), λ h. absurd (omega arith)))
+    (λ c. λ code. (flat-undone _ refl, λ h. absurd (h refl)))
+    (λ c. λ code. (flat-undone _ refl, λ h. absurd (h refl)))
     (λ c. search needs)
     (λ c. λ code. is-test code _ _ _ (c .before .before .before .two-values .ensures .0) (c .before .before .test .ensures)))
