@@ -1,4 +1,4 @@
--- Steps of a run. In order: MARK; a step; some steps, and a run of them. Assumes nothing.
+-- Steps of a run. In order: a step; some steps, and a run of them. Assumes nothing.
 use Prim.Native.Nat.{ℕ, suc, _+_, _-_, _≤_, _<_}
 use native.Mathlib.Omega.{arith}
 use mathlib.Core.Path.{_≡_, refl, sym, _∙_}
@@ -53,33 +53,6 @@ use Rattle.sprints.proofs.Swiftly.{by-number, run-next, run-both, good-as}
 pub bytes-fit : (pre body b : List ℕ) {at : ℕ} {w : List ℕ} {r : Registers} → Ready (both pre body) b at w r → Short pre body → length b ≤ 16777215
 bytes-fit pre body b {at} {w} {r} ready short = rw (ready .bytes) (bytes-short pre body (running (contextsOf (slots w) (r .depth)) .origin) short)
 
--- ---- MARK
-
-mark-one : (1 ≡ arityOf (OnStack Mark)) × (1 ≤ 2)
-unfolding arityOf stackArity
-mark-one = (refl, omega arith)
-
-module _ (x y : Value) (c : Card) (ec : cardOf c ≡ cardinal? x) where
-  mark-places : (n : ℕ) → c ≡ Is n → Acts (part.Place n) ≡ effectOf (OnStack Mark) x y
-  unfolding effectOf stackEffect
-  mark-places n e = is-card x (λ m. Acts (part.Place m)) ec e
-
-  mark-none : c ≡ No → Fail ≡ effectOf (OnStack Mark) x y
-  unfolding effectOf stackEffect
-  mark-none e = no-card x (λ m. Acts (part.Place m)) ec e
-
-module _ {w : List ℕ} {r : Registers} (code : Code) (t : Tops) (g : Busy w r) (et : Topmost (above (stackOf (slots w) (r .height))) t) where
-  pub mark-few : {r′ : Registers} → t .count < 1 → r′ ≡ failed r → Tried (execute code (Plain 186)) w r w r′
-  mark-few {r′} h q = plain-few code 186 1 (OnStack Mark) t g (by-number .11) mark-one et h q
-
-  module _ (h : 1 ≤ t .count) (x : Value) (ex : x ≡ valueIn (t .first)) (c : Card) (ec : cardOf c ≡ cardinal? x) where
-    pub mark-made : {w′ : List ℕ} {q r′ : Registers} (n k : ℕ) → c ≡ Is n → k ≡ n → q ≡ trying r (r .height - 1) (r .depth) (r .used) (r .ok) → Tried (place k) w q w′ r′ → Tried (execute code (Plain 186)) w r w′ r′
-    mark-made {w′} {q} {r′} n k e ek eq d =
-        plain-done code 186 1 (OnStack Mark) t g (by-number .11) mark-one et x (valueIn (t .second)) (Acts (part.Place n)) h ex refl (mark-places x (valueIn (t .second)) c ec n e) eq (is-acts code (Acts (part.Place n)) (part.Place n) refl (by-place code (part.Place n) n k refl ek d))
-
-    pub mark-fails : {r′ : Registers} → c ≡ No → r′ ≡ failed r → Tried (execute code (Plain 186)) w r w r′
-    mark-fails {r′} e q = plain-fails code 186 1 (OnStack Mark) t g (by-number .11) mark-one et x (valueIn (t .second)) h ex refl (mark-none x (valueIn (t .second)) c ec e) q
-
 -- ---- a step
 
 -- so it is with the bytes of the running body
@@ -104,22 +77,6 @@ quiet d = record { good = good-as _ (d .good); does = d .does; keeps = d .keeps;
 -- a literal passed over after others
 module _ (pre body w₀ w : List ℕ) (r₀ r : Registers) (most left : ℕ) (runs : 0 < r .depth) (few : left ≤ most) (sum : r .steps + left ≡ r₀ .steps + most) (same : aside w ≡ aside w₀)
     (inv : run (most - left) (both pre body) (abs w₀ r₀) ≡ abs w r) where
-  -- UNMARK0 is due
-  pub led-here : Good w r → 0 < left → Executes (both pre body) (abs w r) → Led (both pre body) most w₀ r₀ w (record { height = r .height; depth = r .depth; used = r .used; steps = r .steps; errors = r .errors; skipping = r .skipping; ok = true })
-  led-here g h x =
-      let z : r .steps - r₀ .steps ≡ most - left = omega arith in
-      record {
-        good = good-as _ g;
-        does = rw z inv;
-        keeps = same;
-        since = omega arith;
-        within = omega arith;
-        some = λ o. not-on (sym o);
-        more = λ o. omega arith;
-        runs = λ o. runs;
-        executes = λ o. x;
-      }
-
   module _ {w′ : List ℕ} {r′ : Registers} (h : 0 < left) (d : Stepped pre body w r w′ r′) where
     pub after-inv : run (most - (left - 1)) (both pre body) (abs w₀ r₀) ≡ abs w′ r′
     after-inv =

@@ -2,10 +2,11 @@
 use Prim.Native.Nat.{ℕ, suc, _+_, _-_, _≤_, _<_}
 use native.Mathlib.Omega.{arith}
 use mathlib.Core.Path.{_≡_, refl, sym, ap, _∙_}
-use mathlib.Core.Bool.{Bool, true, false, and-false}
+use mathlib.Core.Bool.{Bool, true, false, not, _&&_, and-false}
 use mathlib.Core.List.{List, [], _∷_}
 use mathlib.Core.Option.{Option}
-use borrow.Author.Tests.{le-leb}
+use borrow.Author.Tests.{le-leb, eqb-true}
+use lib.Dec.{eqb}
 use lib.ListN.{length}
 use Rattle.table.specs.Slots.{slots}
 use Rattle.machine.specs.declared.Literal.{Literal}
@@ -15,7 +16,7 @@ use Rattle.machine.specs.Literal.{Code, bytesOf, foundAt}
 use Rattle.machine.specs.Operators.{popped, performed}
 use Rattle.machine.specs.Contexts.{above, atEnd, from, Spot, landedAt, landed, recover, skipAt, skippedIn, skipped}
 use Rattle.machine.specs.Engine.{provided, pops, spell, worked, does, affected}
-use Rattle.machine.specs.Step.{effectAt, execute, literalStep, ended, stepBy, dueIn, step, run}
+use Rattle.machine.specs.Step.{effectAt, execute, executed, isUnmark0, literalStep, begun, ended, stepBy, dueIn, step, run}
 use Rattle.machine.proofs.Inside.{HeldIn, found-inside}
 use Rattle.literals.specs.declared.Ahead.{Ahead}
 use Rattle.literals.specs.declared.Due.{Due}
@@ -26,7 +27,8 @@ use Rattle.state.specs.declared.Registers.{Registers}
 use Rattle.state.specs.Layout.{stackOf, contextsOf, abs, Busy, Done, Tried, Begun}
 use Rattle.state.proofs.Cutting.{over-above}
 use Rattle.state.proofs.Trying.{tried-as}
-use Rattle.sprints.specs.Swift.{Executes}
+use Rattle.state.proofs.Ending.{not-on}
+use Rattle.rides.specs.Rides.{Paced}
 use Rattle.engine.specs.Steps.{SizedLiteral, Stepped}
 
 -- ---- a literal, by its kind
@@ -76,14 +78,30 @@ sized-due b at d h i = rw (i .literal) (sized (foundAt b at .literal) (length b)
 pub here-at : (w : List ℕ) (r : Registers) (c : Place) (depth : ℕ) → r .depth ≡ depth → (c .origin ≡ running (contextsOf (slots w) depth) .origin) × (c .start ≡ running (contextsOf (slots w) depth) .at) → (c .origin ≡ running (contextsOf (slots w) (r .depth)) .origin) × (c .start ≡ running (contextsOf (slots w) (r .depth)) .at)
 here-at w r c depth e h = rw e h
 
+unmark-by : (n : ℕ) (b : Bool) → eqb n 192 ≡ b → b ≡ true → Plain n ≡ Plain 192
+unmark-by n true e h = rw (eqb-true n 192 e)
+unmark-by n false e h = not-on h
+
+unmark-is : (x : Literal) → isUnmark0 x ≡ true → x ≡ Plain 192
+unfolding isUnmark0
+unmark-is (Figure a) h = not-on h
+unmark-is (Name start len) h = not-on h
+unmark-is (Text start) h = not-on h
+unmark-is (Plain n) h = unmark-by n (eqb n 192) refl h
+unmark-is (WithBody n start len) h = not-on h
+
 -- a literal passed over
 module _ (w : List ℕ) (r : Registers) (pre body b : List ℕ) (c : Place) (at n : ℕ) (a : Ahead)
     (here : (c .origin ≡ running (contextsOf (slots w) (r .depth)) .origin) × (c .start ≡ running (contextsOf (slots w) (r .depth)) .at)) (eb : b ≡ bytesOf (both pre body) (c .origin)) (ea : at ≡ c .start)
     (p : Passes (foundAt b at) a) where
-  -- it is UNMARK0
-  pub unmark-due : a .unmarks ≡ true → Executes (both pre body) (abs w r)
-  unfolding dueIn
-  unmark-due u = rw (← (here .0), ← (here .1), ← eb, ← ea, ← (p .unmarks), u) (and-false (r .skipping))
+  -- it is UNMARK0, and not passed over
+  pub unmark-step : {w′ : List ℕ} {r′ : Registers} → a .unmarks ≡ true → n ≡ a .next → Paced (both pre body) (Plain 192) n w r w′ r′ → Stepped pre body w r w′ r′
+  unfolding step stepBy dueIn literalStep
+  unmark-step {w′} {r′} u en d =
+      let x : foundAt b at .literal ≡ Plain 192 = unmark-is (foundAt b at .literal) (sym (p .unmarks) ∙ u) in
+      let s : r .skipping && not (isUnmark0 (foundAt b at .literal)) ≡ false = rw (← (p .unmarks), u) (and-false (r .skipping)) in
+      let z : step (both pre body) (abs w r) ≡ executed (begun n (abs w r)) (execute (both pre body) (Plain 192) (begun n (abs w r))) = rw (← (here .0), ← (here .1), ← eb, ← ea, s, ← (p .next), ← en, x) in
+      record { good = d .good; does = d .does ∙ sym z; keeps = d .keeps; counted = d .counted }
 
   pub skip-step : {w₁ w′ : List ℕ} {q r′ : Registers} → a .unmarks ≡ false → n ≡ a .next → Begun n w r w₁ q → r .skipping ≡ true → Done skipped w₁ q w′ r′ → Stepped pre body w r w′ r′
   unfolding step stepBy dueIn literalStep

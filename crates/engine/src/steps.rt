@@ -10,10 +10,9 @@ ghost use Rattle.state.specs.Layout.{abs, Good, Busy, Tried};
 ghost use Rattle.origins.specs.Bodies.{Short, Noting};
 ghost use Rattle.engine.specs.Steps.{SizedLiteral, Stepped, Ran, Onward};
 ghost use Rattle.sprints.specs.Swift.{Executes, Ready, Attempted};
-ghost use Rattle.rides.specs.Rides.{Led};
+ghost use Rattle.rides.specs.Rides.{Paced, Led};
 use machine::Literal;
 use machine::Op;
-use operands::Card;
 use spans::WORDS;
 use state::Registers;
 
@@ -74,33 +73,12 @@ fn afresh(r: Registers) -> Registers
     }
 }
 
-// MARK: a mark of the running context under as many values as the topmost one says.
-fn mark(w: &mut [u8], r: Registers) -> Registers
-    requires { ⌜ Busy (now w) r ⌝ }
-    ensures { λ q. ⌜ ((code : Code) → Tried (execute code (Plain 186)) (now (w .entry)) r (now (w .exit)) q) ⌝ }
-{
-    let t = state::stack::tops(w, r.height);
-    if t.count < 1 {
-        return state::stack::failed(r);
-    }
-    let x = state::values::value_of(t.first);
-    match operands::values::cardinal(x) {
-        Card::No => state::stack::failed(r),
-        Card::Is(n) => {
-            let mut q = r;
-            q.height = r.height - 1;
-            marks::place(w, q, table::words::size(n))
-        }
-    }
-}
-
 // An operator without a body.
 fn operator<'a>(w: &mut [u8], r: Registers, pre: &'a [u8], body: &'a [u8], n: u16) -> Registers
     requires { ⌜ Busy (now w) r × Short (now pre) (now body) ⌝ }
     ensures { λ q. ⌜ Tried (execute (both (now (pre .entry)) (now (body .entry))) (Plain n)) (now (w .entry)) r (now (w .exit)) q ⌝ }
 {
     match n {
-        186 => afresh(mark(w, afresh(r))),
         192 => marks::remove(w, r, 0),
         _ => match numbering::op_of(n) {
             Op::OnVectors(k) => afresh(families::on_vectors(w, afresh(r), pre, body, k)),
@@ -197,7 +175,22 @@ fn pace<'a>(
 
 // ---- several steps
 
-// Literals of the running body passed over, up to UNMARK0.
+// A step with UNMARK0, after which its body goes on at `next`.
+fn unmark(w: &mut [u8], r: Registers, next: usize) -> Registers
+    requires { ⌜ Good (now w) r × (0 < r .depth) × (r .steps < 4294967295) × (next < 4294967296) ⌝ }
+    ensures { λ q. ⌜ ((code : Code) → Paced code (Plain 192) next (now (w .entry)) r (now (w .exit)) q) ⌝ }
+{
+    let s = contexts::bodies::begin(w, r, table::words::word(next));
+    let p = marks::remove(w, s, 0);
+    if p.ok {
+        return recovery::ends::settle(w, p);
+    }
+    let mut q = r;
+    q.steps = r.steps + 1;
+    recovery::ends::fault(w, q)
+}
+
+// Literals of the running body passed over, and UNMARK0 if it comes.
 fn pass<'a>(w: &mut [u8], start: Registers, pre: &'a [u8], body: &'a [u8], most: usize) -> Registers
     requires { ⌜ Good (now w) start × (0 < start .depth) × (start .skipping ≡ true) × (0 < most) × (start .steps + most ≤ 1000000) × Short (now pre) (now body) ⌝ }
     ensures { λ q. ⌜ Led (both (now (pre .entry)) (now (body .entry))) most (now (w .entry)) start (now (w .exit)) q ⌝ }
@@ -211,8 +204,9 @@ fn pass<'a>(w: &mut [u8], start: Registers, pre: &'a [u8], body: &'a [u8], most:
         let b = origins::bytes_of(pre, body, c.origin);
         let d = literals::reading::ahead(b, table::words::size(c.start));
         if d.unmarks {
-            r.ok = true;
-            return r;
+            let mut q = afresh(unmark(w, r, d.next));
+            q.ok = false;
+            return q;
         }
         let q = contexts::bodies::begin(w, r, table::words::word(d.next));
         r = afresh(recovery::ends::skipped(w, q));

@@ -1,4 +1,4 @@
--- DO in the words of the table, and a step with it. Assumes nothing.
+-- DO and MARK in the words of the table, and a step with a literal. Assumes nothing.
 use Prim.Native.Nat.{ℕ, _+_, _-_, _≤_, _<_}
 use native.Mathlib.Omega.{arith}
 use mathlib.Core.Path.{_≡_, refl, ap, sym, _∙_}
@@ -14,23 +14,29 @@ use Rattle.machine.specs.declared.Literal.{Literal}
 use Rattle.machine.specs.declared.Literal.the-variants.{Plain}
 use Rattle.machine.specs.declared.Effect.the-variants.{Fail, Acts}
 use Rattle.machine.specs.declared.Next.the-variants.{Call}
-use Rattle.machine.specs.declared.Op.the-variants.{Calls}
+use Rattle.machine.specs.declared.Next.the-variants as part
+use Rattle.machine.specs.declared.Op.the-variants.{Calls, OnStack}
+use Rattle.machine.specs.declared.StackOp.the-variants.{Mark}
 use Rattle.machine.specs.declared.CallOp.the-variants.{Do}
 use Rattle.machine.specs.State.{Context, State, running}
 use Rattle.machine.specs.Literal.{Code, bytesOf}
 use Rattle.machine.specs.Operators.{arityOf, effectOf}
-use Rattle.machine.specs.Operand.{asOperator}
+use Rattle.machine.specs.Operand.{cardinal?, asOperator}
 use Rattle.machine.specs.Ops.Call.{called, callEffect}
+use Rattle.machine.specs.Ops.Stack.{stackArity, stackEffect}
 use Rattle.machine.specs.Contexts.{above, fault, settle}
-use Rattle.machine.specs.Engine.{call}
+use Rattle.machine.specs.Engine.{place, call, does}
 use Rattle.machine.specs.Step.{execute, executed, begunIn, begun}
-use Rattle.operands.proofs.Reading.{no-operator}
+use Rattle.operands.specs.declared.Card.{Card}
+use Rattle.operands.specs.declared.Card.the-variants.{No, Is}
+use Rattle.operands.specs.Operands.{cardOf}
+use Rattle.operands.proofs.Reading.{no-operator, no-card, is-card}
 use Rattle.machine.proofs.Value.{the-type}
 use Rattle.state.specs.declared.Registers.{Registers}
 use Rattle.state.specs.declared.Tops.{Tops}
 use Rattle.state.specs.Layout.{valueIn, stackOf, abs, Good, Busy, Done, answer, Tried, Begun, Topmost}
 use Rattle.state.proofs.Trying.{trying, failed}
-use Rattle.effects.proofs.Acting.{is-acts, by-call}
+use Rattle.effects.proofs.Acting.{is-acts, by-call, by-place}
 use Rattle.effects.proofs.Executing.{plain-few, plain-done, plain-fails}
 use Rattle.sprints.specs.Swift.{origin, stepped}
 use Rattle.sprints.proofs.Swiftly.{by-number}
@@ -62,6 +68,33 @@ module _ {w : List ℕ} {r : Registers} (code : Code) (t : Tops) (g : Busy w r) 
     pub do-fails : {r′ : Registers} → OneOf (0 ∷ 1 ∷ 2 ∷ []) (tagOf the-type x) → r′ ≡ failed r → Tried (execute code (Plain 231)) w r w r′
     do-fails {r′} bad q =
         plain-fails code 231 1 (Calls Do) t g (by-number .6) do-one et x (valueIn (t .second)) h ex refl (calls-nothing x (valueIn (t .second)) bad) q
+
+-- ---- MARK
+
+mark-one : (1 ≡ arityOf (OnStack Mark)) × (1 ≤ 2)
+unfolding arityOf stackArity
+mark-one = (refl, omega arith)
+
+module _ (x y : Value) (c : Card) (ec : cardOf c ≡ cardinal? x) where
+  mark-places : (n : ℕ) → c ≡ Is n → Acts (part.Place n) ≡ effectOf (OnStack Mark) x y
+  unfolding effectOf stackEffect
+  mark-places n e = is-card x (λ m. Acts (part.Place m)) ec e
+
+  mark-none : c ≡ No → Fail ≡ effectOf (OnStack Mark) x y
+  unfolding effectOf stackEffect
+  mark-none e = no-card x (λ m. Acts (part.Place m)) ec e
+
+module _ {w : List ℕ} {r : Registers} (code : Code) (t : Tops) (g : Busy w r) (et : Topmost (above (stackOf (slots w) (r .height))) t) where
+  pub mark-few : {r′ : Registers} → t .count < 1 → r′ ≡ failed r → Tried (execute code (Plain 186)) w r w r′
+  mark-few {r′} h q = plain-few code 186 1 (OnStack Mark) t g (by-number .11) mark-one et h q
+
+  module _ (h : 1 ≤ t .count) (x : Value) (ex : x ≡ valueIn (t .first)) (c : Card) (ec : cardOf c ≡ cardinal? x) where
+    pub mark-made : {w′ : List ℕ} {q r′ : Registers} (n k : ℕ) → c ≡ Is n → k ≡ n → q ≡ trying r (r .height - 1) (r .depth) (r .used) (r .ok) → Tried (place k) w q w′ r′ → Tried (execute code (Plain 186)) w r w′ r′
+    mark-made {w′} {q} {r′} n k e ek eq d =
+        plain-done code 186 1 (OnStack Mark) t g (by-number .11) mark-one et x (valueIn (t .second)) (Acts (part.Place n)) h ex refl (mark-places x (valueIn (t .second)) c ec n e) eq (is-acts code (Acts (part.Place n)) (part.Place n) refl (by-place code (part.Place n) n k refl ek d))
+
+    pub mark-fails : {r′ : Registers} → c ≡ No → r′ ≡ failed r → Tried (execute code (Plain 186)) w r w r′
+    mark-fails {r′} e q = plain-fails code 186 1 (OnStack Mark) t g (by-number .11) mark-one et x (valueIn (t .second)) h ex refl (mark-none x (valueIn (t .second)) c ec e) q
 
 -- ---- a step
 

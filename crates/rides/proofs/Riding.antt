@@ -15,12 +15,15 @@ use Rattle.tokens.specs.declared.Read.the-variants as read
 use Rattle.tokens.specs.Token.{tokenAt}
 use Rattle.machine.specs.declared.Literal.{Literal}
 use Rattle.machine.specs.declared.Literal.the-variants.{Plain, WithBody}
-use Rattle.machine.specs.declared.Op.the-variants.{Calls}
+use Rattle.machine.specs.declared.Op.{Op}
+use Rattle.machine.specs.declared.Op.the-variants.{Calls, OnStack}
+use Rattle.machine.specs.declared.StackOp.the-variants.{Mark}
 use Rattle.machine.specs.declared.CallOp.the-variants.{Do}
 use Rattle.machine.specs.declared.Went.the-variants.{Past}
 use Rattle.machine.specs.Limits.{mostOpen}
 use Rattle.machine.specs.Skeleton.{solid, bodyAt}
 use Rattle.machine.specs.Literal.{Code, bytesOf, Found, holdingBy, holdingAt, operatorBy, foundBy, foundAt}
+use Rattle.machine.specs.Operators.{opOf}
 use Rattle.machine.specs.Contexts.{settle}
 use Rattle.machine.specs.Step.{execute, executed, begun, step, run}
 use Rattle.machine.proofs.Inside.{token-inside}
@@ -32,7 +35,7 @@ use Rattle.contexts.proofs.Entering.{begin-done}
 use Rattle.sprints.specs.declared.Reach.{Reach}
 use Rattle.sprints.specs.Swift.{origin, ending, ahead, Rowed}
 use Rattle.sprints.proofs.Ahead.{moved-same, begun-is, ended-ahead, settle-ahead, due-ahead}
-use Rattle.sprints.proofs.Swiftly.{op-role, by-number, run-last, none-run, good-as}
+use Rattle.sprints.proofs.Swiftly.{known, op-role, by-number, run-last, none-run, good-as}
 use Rattle.rides.specs.Rides.{Paced, Alighted, Led}
 use Rattle.rides.proofs.Holding.{held-role}
 
@@ -109,10 +112,16 @@ module _ (w w₁ : List ℕ) (r : Registers) (p at end : ℕ) (g : Good w r) (ru
 pub found-as : (f : Found) (n m : ℕ) → f .next ≡ n → m ≡ n → f ≡ record { literal = f .literal; next = m }
 found-as f n m e em = λ i. record { literal = f .literal; next = (e ∙ sym em) i }
 
--- DO at a place
-pub do-found : (b : List ℕ) (at n next m : ℕ) → tokenAt b at ≡ read.Operator n next → n ≡ 231 → m ≡ solid b next → foundAt b at ≡ record { literal = Plain 231; next = m }
+-- an operator of the table at a place
+plain-there : (b : List ℕ) (at n next m k : ℕ) (o : Op) → tokenAt b at ≡ read.Operator n next → n ≡ k → m ≡ solid b next → o ≡ opOf k → known o ≡ true → foundAt b at ≡ record { literal = Plain k; next = m }
 unfolding foundAt foundBy operatorBy
-do-found b at n next m e z em = rw (e, z, em, op-role 231 (Calls Do) (by-number .6) refl)
+plain-there b at n next m k o e z em eo h = rw (e, z, em, op-role k o eo h)
+
+pub do-found : (b : List ℕ) (at n next m : ℕ) → tokenAt b at ≡ read.Operator n next → n ≡ 231 → m ≡ solid b next → foundAt b at ≡ record { literal = Plain 231; next = m }
+do-found b at n next m e z em = plain-there b at n next m 231 (Calls Do) e z em (by-number .6) refl
+
+pub mark-found : (b : List ℕ) (at n next m : ℕ) → tokenAt b at ≡ read.Operator n next → n ≡ 186 → m ≡ solid b next → foundAt b at ≡ record { literal = Plain 186; next = m }
+mark-found b at n next m e z em = plain-there b at n next m 186 (OnStack Mark) e z em (by-number .11) refl
 
 -- an operator with its body
 pub held-found : (b : List ℕ) (at n next end : ℕ) → tokenAt b at ≡ read.Operator n next → OneOf (110 ∷ 239 ∷ 240 ∷ []) n → bodyAt mostOpen b next ≡ Past end

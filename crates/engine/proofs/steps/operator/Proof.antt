@@ -1,8 +1,7 @@
--- `steps::operator` meets its contract. Assumes nothing.
-use borrow.Author.Needs.{needs}
-use mathlib.Core.Path.{sym, _∙_}
-use Rattle.engine.proofs.Stepping.{tried-same, busy-same}
 use Rattle.sprints.proofs.Swiftly.{is-unmark}
+use Rattle.engine.proofs.Stepping.{tried-same, busy-same}
+use mathlib.Core.Path.{sym, _∙_}
+use borrow.Author.Needs.{needs}
 use Rattle.engine.proofs.steps.operator.Statement.{statement}
 use Rattle.engine.proofs.steps.operator.Tie as tie
 
@@ -11,9 +10,10 @@ operator-spec =
     tie.close
     (tie.spec
     (λ c κs. search needs)
-    (λ c κs. busy-same (c .afresh .ensures) (c .before .before .before .before .before .before .pre .0))
     (λ c κs. search needs)
+    (λ c. search needs)
     (λ c κs. search needs)
+    (λ c κs. (busy-same (c .afresh .ensures) (c .before .before .before .before .before .before .before .before .before .before .pre .0), c .before .before .before .before .before .before .before .before .before .before .pre .1))
     (λ c κs. search needs)
     (λ c. search needs)
     (λ c κs. search needs)
@@ -27,24 +27,18 @@ operator-spec =
     (λ c κs. search needs)
     (λ c κs. (busy-same (c .afresh7 .ensures) (c .before .before .before .before .before .before .before .before .before .before .pre .0), c .before .before .before .before .before .before .before .before .before .before .pre .1))
     (λ c κs. search needs)
-    (λ c. search needs)
     (λ c κs. search needs)
-    (λ c κs. (busy-same (c .afresh9 .ensures) (c .before .before .before .before .before .before .before .before .before .before .pre .0), c .before .before .before .before .before .before .before .before .before .before .pre .1))
-    (λ c κs. search needs)
-    (λ c κs. search needs)
-    (λ c κs. (busy-same (c .afresh11 .ensures) (c .before .before .before .before .before .before .before .before .pre .0), c .before .before .before .before .before .before .before .before .pre .1))
+    (λ c κs. (busy-same (c .afresh9 .ensures) (c .before .before .before .before .before .before .before .before .pre .0), c .before .before .before .before .before .before .before .before .pre .1))
     (λ c κs. search needs)
     (λ c. search needs)
-    (λ c. rw (c .before .before .before .before .before .before .match .keys1) (tried-same (c .before .before .before .before .afresh .ensures) (c .afresh2 .ensures) (c .before .before .before .mark .ensures _)))
+    (λ c. is-unmark _ _ _ (c .before .before .before .before .match .keys1) (c .before .before .remove .ensures))
     (λ c. search needs)
-    (λ c. is-unmark _ _ _ (c .before .before .before .before .match .keys2) (c .before .before .remove .ensures))
+    (λ c. tried-same (c .before .before .before .before .afresh .ensures) (c .afresh2 .ensures) (c .before .before .before .on-vectors .ensures _ (sym (c .before .before .before .before .before .before .before .k .given .1) ∙ c .before .before .before .before .before .before .before .before .before .op-of .ensures)))
     (λ c. search needs)
-    (λ c. tried-same (c .before .before .before .before .afresh3 .ensures) (c .afresh4 .ensures) (c .before .before .before .on-vectors .ensures _ (sym (c .before .before .before .before .before .before .before .k .given .1) ∙ c .before .before .before .before .before .before .before .before .before .op-of .ensures)))
+    (λ c. tried-same (c .before .before .before .before .afresh3 .ensures) (c .afresh4 .ensures) (c .before .before .before .on-tests .ensures _ (sym (c .before .before .before .before .before .before .before .k2 .given .1) ∙ c .before .before .before .before .before .before .before .before .before .op-of .ensures)))
     (λ c. search needs)
-    (λ c. tried-same (c .before .before .before .before .afresh5 .ensures) (c .afresh6 .ensures) (c .before .before .before .on-tests .ensures _ (sym (c .before .before .before .before .before .before .before .k2 .given .1) ∙ c .before .before .before .before .before .before .before .before .before .op-of .ensures)))
+    (λ c. tried-same (c .before .before .before .before .afresh5 .ensures) (c .afresh6 .ensures) (c .before .before .before .on-stack .ensures _ (sym (c .before .before .before .before .before .before .before .k3 .given .1) ∙ c .before .before .before .before .before .before .before .before .before .op-of .ensures)))
     (λ c. search needs)
-    (λ c. tried-same (c .before .before .before .before .afresh7 .ensures) (c .afresh8 .ensures) (c .before .before .before .on-stack .ensures _ (sym (c .before .before .before .before .before .before .before .k3 .given .1) ∙ c .before .before .before .before .before .before .before .before .before .op-of .ensures)))
+    (λ c. tried-same (c .before .before .before .before .afresh7 .ensures) (c .afresh8 .ensures) (c .before .before .before .on-numbers .ensures _ (sym (c .before .before .before .before .before .before .before .k4 .given .1) ∙ c .before .before .before .before .before .before .before .before .before .op-of .ensures)))
     (λ c. search needs)
-    (λ c. tried-same (c .before .before .before .before .afresh9 .ensures) (c .afresh10 .ensures) (c .before .before .before .on-numbers .ensures _ (sym (c .before .before .before .before .before .before .before .k4 .given .1) ∙ c .before .before .before .before .before .before .before .before .before .op-of .ensures)))
-    (λ c. search needs)
-    (λ c. tried-same (c .before .before .before .before .afresh11 .ensures) (c .afresh12 .ensures) (c .before .before .before .plain .ensures)))
+    (λ c. tried-same (c .before .before .before .before .afresh9 .ensures) (c .afresh10 .ensures) (c .before .before .before .plain .ensures)))

@@ -1,11 +1,11 @@
--- `steps::mark` meets its contract. Assumes nothing.
+-- `mark` meets its contract. Assumes nothing.
 use mathlib.Core.Path.{refl}
 use Rattle.state.proofs.Stacking.{tops-fit}
 use Rattle.effects.proofs.Executing.{busy-lower}
-use Rattle.engine.proofs.Leading.{mark-few, mark-made, mark-fails}
+use Rattle.rides.proofs.Calling.{mark-few, mark-made, mark-fails}
 use borrow.Author.Needs.{needs}
-use Rattle.engine.proofs.steps.mark.Statement.{statement}
-use Rattle.engine.proofs.steps.mark.Tie as tie
+use Rattle.rides.proofs.mark.Statement.{statement}
+use Rattle.rides.proofs.mark.Tie as tie
 
 pub mark-spec : {M : Type 1} → statement M
 mark-spec =
