@@ -19,6 +19,7 @@ ghost use Rattle.machine.specs.Engine.{inline};
 ghost use Rattle.machine.specs.Step.{execute, begun};
 ghost use Rattle.names.specs.Names.{both};
 ghost use Rattle.state.specs.Layout.{contextsOf, abs, Good, Busy, Tried};
+ghost use Rattle.spans.specs.Memo.{Noted};
 ghost use Rattle.origins.specs.Bodies.{Short, Noting};
 ghost use Rattle.sprints.specs.Swift.{origin, ending};
 ghost use Rattle.rides.specs.Rides.{Paced, Alighted, Led};
@@ -202,6 +203,18 @@ fn past_end(went: Went) -> usize
     }
 }
 
+// Where the body of s that is due at `next` ends, by the notes or passed over; 0 if there is none.
+fn noted_end(s: &[u8], next: usize, memo: &mut [u32]) -> usize
+    requires { ⌜ (length (now s) ≤ 16777215) × Noted (now s) (now memo) ⌝ }
+    ensures { λ r. ⌜ ((r ≡ 0 → ⊥) → bodyAt mostOpen (now (s .entry)) next ≡ Past r) × Noted (now (s .entry)) (now (memo .exit)) ⌝ }
+{
+    let end = spans::seen(memo, next);
+    if end > 0 {
+        return end;
+    }
+    past_end(spans::span_of(s, next, memo))
+}
+
 // Where the body that is due at `next` ends, 0 if there is none.
 fn span_end(
     pre: &[u8],
@@ -215,10 +228,10 @@ fn span_end(
     ensures { λ r. ⌜ ((r ≡ 0 → ⊥) → bodyAt mostOpen (bytesOf (both (now (pre .entry)) (now (body .entry))) origin) next ≡ Past r) × Noting (now (pre .entry)) (now (body .entry)) (now (early .exit)) (now (notes .exit)) ⌝ }
 {
     if origin == 0 {
-        return past_end(spans::span_of(pre, next, early));
+        return noted_end(pre, next, early);
     }
     if origin == 1 {
-        return past_end(spans::span_of(body, next, notes));
+        return noted_end(body, next, notes);
     }
     0
 }

@@ -16,12 +16,15 @@ use Rattle.machine.specs.declared.Went.the-variants.{Past, Stop}
 use Rattle.machine.specs.declared.Passed.{Passed}
 use Rattle.machine.specs.declared.Passed.the-variants.{On, Closed, Bad}
 use Rattle.machine.specs.Limits.{mostOpen}
-use Rattle.machine.specs.Skeleton.{opening, follow, andThen, held, due, literalBy, literalsFrom, bodyAt, literalAt}
+use Rattle.machine.specs.Skeleton.{opening, follow, andThen, held, dueBy, due, literalBy, literalsFrom, bodyAt, literalAt}
 use Rattle.machine.proofs.Inside.{PassedIn, WentIn, literal-later, due-inside, solid-past}
 use Rattle.machine.proofs.Bodies.{body-later, body-ends}
 use Rattle.machine.proofs.BodyLocal.{body-more}
 use Rattle.spans.specs.Memo.{Noted, withNote, Seen, Opened}
-use Rattle.nesting.proofs.BodyTurns.{turn, entered}
+use Rattle.nesting.proofs.BodyTurns.{turn, entered, due-there, stands-at}
+use borrow.Author.Tests.{lt-ltb}
+use Rattle.tokens.specs.declared.Read.the-variants as read
+use Rattle.tokens.specs.Token.{tokenAt, tokenOf}
 
 -- ---- room for literals
 
@@ -283,3 +286,15 @@ module _ {s t : List ℕ} (x end : ℕ) (N : Noted s t) where
         (λ g. split (x % 64) i (λ h. note-other i l (λ z. omega arith) f)
         (λ h. let z : i ≡ x % 64 = omega arith in rw (z, note-begins, note-ends) e));
   }
+
+-- ---- a `{` by its two bytes
+
+open-token : (s : List ℕ) (at : ℕ) → at + 1 < length s → getD s at 0 ≡ 160 → getD s (at + 1) 0 ≡ 106 → tokenAt s at ≡ read.Operator 106 (at + 2)
+unfolding tokenAt tokenOf
+open-token s at h e f = simp (lt-ltb at (length s) (omega arith), e, lt-ltb (at + 1) (length s) h, f)
+
+pub open-due : (s : List ℕ) (at : ℕ) → at + 1 < length s → getD s at 0 ≡ 160 → getD s (at + 1) 0 ≡ 106 → due opening s at ≡ Past (at + 2)
+unfolding dueBy
+open-due s at h e f =
+    let t = open-token s at h e f in
+    due-there opening s at at (Past (at + 2)) (stands-at s at (rw t tt)) (rw t)

@@ -4,7 +4,8 @@ ghost use mathlib.Core.Path.{_≡_};
 ghost use Prim.Native.Nat.{_<_, _≤_};
 ghost use lib.ListN.{length};
 ghost use Rattle.machine.specs.Limits.{mostOpen};
-ghost use Rattle.machine.specs.Skeleton.{bodyAt};
+ghost use Rattle.machine.specs.declared.Went.the-variants.{Past};
+ghost use Rattle.machine.specs.Skeleton.{opening, due, bodyAt};
 ghost use Rattle.spans.specs.Memo.{Noted, withNote, Seen, Opened};
 use machine::Role;
 use machine::Went;
@@ -33,7 +34,7 @@ fn note(memo: &mut [u32], at: usize, end: usize)
 }
 
 // Where the body due at `at` ends, 0 if that is not noted.
-fn seen(memo: &[u32], at: usize) -> usize
+pub fn seen(memo: &[u32], at: usize) -> usize
     requires { ⌜ 128 ≤ length (now memo) ⌝ }
     ensures { λ r. ⌜ ((r ≡ 0 → ⊥) → Seen (now (memo .entry)) at r) ⌝ }
 {
@@ -49,10 +50,36 @@ fn seen(memo: &[u32], at: usize) -> usize
 
 // ---- the pass
 
+// Past the `{` at `at`, told by its two bytes, where `left` more bodies may be open; 0 if none is told.
+fn opens(s: &[u8], at: usize, left: usize) -> usize
+    ensures { λ r. ⌜ ((r ≡ 0 → ⊥) → (0 < left) × (due opening (now (s .entry)) at ≡ Past r)) ⌝ }
+{
+    if left == 0 {
+        return 0;
+    }
+    if s.len() <= at {
+        return 0;
+    }
+    if s.len() - at < 2 {
+        return 0;
+    }
+    if s[at] != 160 {
+        return 0;
+    }
+    if s[at + 1] != 106 {
+        return 0;
+    }
+    at + 2
+}
+
 // Past the `{` of a body, which is due from `at` on, where `left` more bodies may be open.
 fn opened(s: &[u8], at: usize, left: usize) -> Went
     ensures { λ r. ⌜ Opened left (now (s .entry)) at r ⌝ }
 {
+    let open = opens(s, at, left);
+    if open > 0 {
+        return Went::Past { next: open };
+    }
     let q = bodies::past_comments(s, at);
     match bodies::due_here(roles::OPEN, s, q) {
         Went::Past { next } => {
