@@ -1,54 +1,28 @@
 -- Steps of a run. In order: a step; some steps, and a run of them. Assumes nothing.
 use Prim.Native.Nat.{ℕ, suc, _+_, _-_, _≤_, _<_}
 use native.Mathlib.Omega.{arith}
-use mathlib.Core.Path.{_≡_, refl, sym, _∙_}
-use mathlib.Core.Bool.{Bool, true, false}
+use mathlib.Core.Path.{_≡_, sym, _∙_}
+use mathlib.Core.Bool.{true, false}
 use mathlib.Core.List.{List, [], _∷_}
 use mathlib.Core.Option.{some}
-use types.Run.{OneOf}
-use denote.Enum.Declared.{tagOf}
-use borrow.Author.Tests.{ltb-true, ltb-false}
-use lib.Dec.{ltb}
 use lib.ListN.{length}
 use Rattle.table.specs.Slots.{slots}
-use Rattle.machine.specs.declared.Value.{Value}
-use Rattle.machine.specs.declared.Value.the-variants.{Operator}
-use Rattle.machine.specs.declared.Literal.the-variants.{Plain}
-use Rattle.machine.specs.declared.Effect.the-variants.{Fail, Acts}
-use Rattle.machine.specs.declared.Next.the-variants.{Call}
-use Rattle.machine.specs.declared.Next.the-variants as part
-use Rattle.machine.specs.declared.Op.the-variants.{Calls, OnStack}
-use Rattle.machine.specs.declared.CallOp.the-variants.{Do}
-use Rattle.machine.specs.declared.StackOp.the-variants.{Mark}
 use Rattle.machine.specs.State.{State, running}
 use Rattle.machine.specs.Literal.{Code, bytesOf}
-use Rattle.machine.specs.Operators.{arityOf, effectOf}
-use Rattle.machine.specs.Operand.{cardinal?, asOperator}
-use Rattle.machine.specs.Ops.Call.{called, callEffect}
-use Rattle.machine.specs.Ops.Stack.{stackArity, stackEffect}
-use Rattle.machine.specs.Contexts.{above, fault, settle}
-use Rattle.machine.specs.Engine.{place, call, does}
-use Rattle.machine.specs.Step.{execute, run}
-use Rattle.operands.specs.declared.Card.{Card}
-use Rattle.operands.specs.declared.Card.the-variants.{No, Is}
-use Rattle.operands.specs.Operands.{cardOf}
-use Rattle.operands.proofs.Reading.{no-operator, no-card, is-card}
-use Rattle.machine.proofs.Value.{the-type}
+use Rattle.machine.specs.Contexts.{fault, settle}
+use Rattle.machine.specs.Engine.{place, does}
+use Rattle.machine.specs.Step.{run}
 use Rattle.names.specs.Names.{both}
 use Rattle.state.specs.declared.Place.{Place}
 use Rattle.state.specs.declared.Registers.{Registers}
-use Rattle.state.specs.declared.Tops.{Tops}
-use Rattle.state.specs.Layout.{valueIn, stackOf, contextsOf, aside, abs, Good, Busy, Done, Tried, Topmost}
-use Rattle.state.proofs.Trying.{trying, failed}
+use Rattle.state.specs.Layout.{contextsOf, aside, abs, Good, Done}
 use Rattle.state.proofs.Ending.{not-on}
 use Rattle.origins.specs.Bodies.{Short}
 use Rattle.sprints.specs.Swift.{stepped, Executes, Ready, Attempted}
 use Rattle.rides.specs.Rides.{Led}
 use Rattle.engine.specs.Steps.{Stepped, Onward}
 use Rattle.origins.proofs.ByOrigin.{bytes-short}
-use Rattle.effects.proofs.Acting.{is-acts, by-call, by-place}
-use Rattle.effects.proofs.Executing.{plain-few, plain-done, plain-fails}
-use Rattle.sprints.proofs.Swiftly.{by-number, run-next, run-both, good-as}
+use Rattle.sprints.proofs.Swiftly.{run-next, run-both, good-as}
 
 pub bytes-fit : (pre body b : List ℕ) {at : ℕ} {w : List ℕ} {r : Registers} → Ready (both pre body) b at w r → Short pre body → length b ≤ 16777215
 bytes-fit pre body b {at} {w} {r} ready short = rw (ready .bytes) (bytes-short pre body (running (contextsOf (slots w) (r .depth)) .origin) short)

@@ -1,7 +1,6 @@
 -- A step, several steps and a run of the bodies pre and body on the table. Assumes nothing.
 use Prim.Native.Nat.{ℕ, _+_, _-_, _≤_, _<_}
 use mathlib.Core.Path.{_≡_}
-use mathlib.Core.Bool.{true, false}
 use mathlib.Core.List.{List}
 use Rattle.machine.specs.declared.Literal.{Literal}
 use Rattle.machine.specs.declared.Literal.the-variants.{Figure, Name, Text, Plain, WithBody}
@@ -10,7 +9,6 @@ use Rattle.machine.specs.Step.{step, run}
 use Rattle.names.specs.Names.{both}
 use Rattle.state.specs.declared.Registers.{Registers}
 use Rattle.state.specs.Layout.{aside, abs, Good}
-use Rattle.sprints.specs.Swift.{Executes}
 
 -- a held body's end is a word
 abbrev pub SizedLiteral : Literal → Type 0

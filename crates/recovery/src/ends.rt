@@ -98,21 +98,6 @@ pub fn settle(w: &mut [u8], before: Registers) -> Registers
     r
 }
 
-// Whether the body at `depth` is the running one and goes on: then a literal that did not fail ends nothing.
-pub fn goes_on(w: &[u8], r: Registers, depth: usize) -> bool
-    requires { ⌜ Good (now w) r × (0 < depth) ⌝ }
-    ensures { λ b. ⌜ (b ≡ true → (r .depth ≡ depth) × Done settle (now (w .entry)) r (now (w .entry)) (record { height = r .height; depth = r .depth; used = r .used; steps = r .steps; errors = r .errors; skipping = false; ok = r .ok })) ⌝ }
-{
-    if r.depth != depth {
-        return false;
-    }
-    let c = table::slots::get(w, 1752 + (depth - 1));
-    if c.b < c.c {
-        return true;
-    }
-    false
-}
-
 // After a literal that was passed over.
 pub fn skipped(w: &[u8], r: Registers) -> Registers
     requires { ⌜ Busy (now w) r × (r .skipping ≡ true) ⌝ }

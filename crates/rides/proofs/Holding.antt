@@ -1,12 +1,11 @@
 -- IF, CORRECT and IFCOPY in the words of the table. Assumes nothing.
 use Prim.Native.Nat.{ℕ, _+_, _-_, _≤_, _<_}
 use native.Mathlib.Omega.{arith}
-use mathlib.Core.Path.{_≡_, refl, sym, ap, _∙_}
-use mathlib.Core.Bool.{Bool, true, false, cond}
+use mathlib.Core.Path.{_≡_, refl, sym, _∙_}
+use mathlib.Core.Bool.{true, false}
 use mathlib.Core.Logic.{inl, inr}
 use mathlib.Core.List.{List, [], _∷_}
-use borrow.Author.Tests.{eqb-true, eq-eqb, ne-eqb, le-leb}
-use lib.Dec.{eqb}
+use borrow.Author.Tests.{eq-eqb, ne-eqb, le-leb}
 use lib.ListN.{length}
 use types.Run.{OneOf}
 use Rattle.table.specs.Slots.{slots}
@@ -16,10 +15,8 @@ use Rattle.machine.specs.declared.Work.the-variants.{Nothing}
 use Rattle.machine.specs.declared.Next.the-variants.{Works, Inline}
 use Rattle.machine.specs.declared.Effect.the-variants.{Fail, Acts}
 use Rattle.machine.specs.declared.Literal.the-variants.{WithBody}
-use Rattle.machine.specs.declared.Went.the-variants.{Past}
 use Rattle.machine.specs.declared.Role.the-variants as role
-use Rattle.machine.specs.Limits.{mostOpen}
-use Rattle.machine.specs.Skeleton.{solid, bodyAt, roleOf, oneOf}
+use Rattle.machine.specs.Skeleton.{solid, roleOf, oneOf}
 use Rattle.machine.specs.Literal.{Code, bytesOf}
 use Rattle.machine.specs.Operators.{bodyOpOf, popped, performed}
 use Rattle.machine.specs.Operand.{cardinal?}
@@ -33,7 +30,7 @@ use Rattle.operands.specs.Operands.{cardOf}
 use Rattle.operands.proofs.Reading.{no-card, is-card, when-so, when-not}
 use Rattle.state.specs.declared.Registers.{Registers}
 use Rattle.state.specs.declared.Tops.{Tops}
-use Rattle.state.specs.Layout.{valueIn, stackOf, abs, Busy, answer, Tried, Topmost}
+use Rattle.state.specs.Layout.{valueIn, stackOf, Busy, answer, Tried, Topmost}
 use Rattle.state.specs.Operations as table
 use Rattle.state.proofs.Trying.{trying, failed, tried-as, tried-no}
 use Rattle.state.proofs.Cutting.{over-above}

@@ -6,8 +6,6 @@ use mathlib.Core.Path.{_≡_, refl, sym, ap, _∙_}
 use mathlib.Core.Bool.{Bool, true, false, not}
 use mathlib.Core.List.{List, []}
 use mathlib.Core.Option.{none}
-use borrow.Author.Tests.{leb-false}
-use lib.Dec.{leb}
 use lib.ListN.{length, getD}
 use Rattle.table.specs.declared.Slot.{Slot}
 use Rattle.table.specs.Slots.{slots, nil}
@@ -36,16 +34,14 @@ use Rattle.literals.specs.Dues.{Is}
 use Rattle.literals.proofs.Passing.{solid-inside}
 use Rattle.origins.proofs.ByOrigin.{next-inside}
 use Rattle.state.specs.declared.Registers.{Registers}
-use Rattle.state.specs.Layout.{contextsOf, contextAt, contextIn, goesTo, aside, abs, Good, Busy, answer, Begun}
+use Rattle.state.specs.Layout.{contextsOf, contextAt, contextIn, aside, abs, Busy, answer}
 use Rattle.state.proofs.Parts.{contexts-top, contexts-at}
 use Rattle.state.proofs.Ending.{not-on}
-use Rattle.contexts.proofs.Entering.{begin-done}
 use Rattle.sprints.specs.declared.Stride.{Stride}
-use Rattle.sprints.specs.declared.Reach.{Reach}
 use Rattle.sprints.specs.Swift.{marked, raised, origin, ending, ahead, Flat, Strides, lifted, Rowed}
-use Rattle.sprints.proofs.Ahead.{moved-same, begun-is, ended-ahead, settle-ahead, step-ahead}
+use Rattle.sprints.proofs.Ahead.{ended-ahead, settle-ahead, step-ahead}
 use Rattle.sprints.proofs.Level.{stays-none}
-use Rattle.sprints.proofs.Swiftly.{run-last, none-run, good-as}
+use Rattle.sprints.proofs.Swiftly.{run-last, none-run}
 
 -- ---- a place past comments
 

@@ -115,14 +115,5 @@ module _ {w : List ℕ} {r : Registers} (c : Slot) (g : Busy w r) (got : c ≡ g
         does = rw (contexts-at (slots w) (r .depth) c (g .runs) got, le-leb (c .c) (c .b) t, ← (p .lands), b);
       })
 
--- ---- a body that goes on
-
-pub stays-on : (w : List ℕ) (r : Registers) (depth : ℕ) (c : Slot) → Good w r → 0 < depth → r .depth ≡ depth → c ≡ getD (slots w) (1752 + (depth - 1)) nil → c .b < c .c
-    → (r .depth ≡ depth) × Done settle w r w (moved r (r .height) (r .depth) (r .errors) false)
-stays-on w r depth c g h e got less =
-    let c-at : c ≡ getD (slots w) (1752 + (r .depth - 1)) nil = rw e got in
-    let deep : 0 < r .depth = rw e h in
-    (e, record { good = omega arith; does = leave-stop w r refl c c-at deep less refl; keeps = refl; counted = refl })
-
 pub not-on : {X : Type 0} → false ≡ true → X
 not-on e = let z : _≡_ {A = ℕ} 0 1 = cc in absurd (omega arith)

@@ -1,6 +1,5 @@
 use borrow.Author.Tests.{eqb-true}
 use mathlib.Core.Logic.{inl, inr}
-use mathlib.Core.Path.{refl}
 use Rattle.rides.proofs.is_held.Statement.{statement}
 use Rattle.rides.proofs.is_held.Tie as tie
 

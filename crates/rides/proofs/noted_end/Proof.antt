@@ -1,6 +1,5 @@
 use Rattle.spans.proofs.SpanTurns.{seen-ends}
 use mathlib.Core.Path.{sym, _∙_}
-use native.Mathlib.Omega.{arith}
 use borrow.Author.Needs.{needs}
 use Rattle.rides.proofs.noted_end.Statement.{statement}
 use Rattle.rides.proofs.noted_end.Tie as tie

@@ -1,5 +1,5 @@
 use Rattle.rides.proofs.Calling.{settles, bytes-begun, paced-settles, paced-faults, good-after}
-use mathlib.Core.Path.{refl, sym, _∙_}
+use mathlib.Core.Path.{refl, _∙_}
 use native.Mathlib.Omega.{arith}
 use Rattle.sprints.proofs.Rows.{place-fits}
 use Rattle.literals.proofs.Finding.{body-fits}
