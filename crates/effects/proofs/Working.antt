@@ -1,12 +1,13 @@
 -- The engine's part of an operator where it needs bytes, in the words of the table. Assumes nothing.
 use Prim.Native.Nat.{ℕ, _+_, _-_, _<_, _≤_}
 use native.Mathlib.Omega.{arith}
-use mathlib.Core.Path.{_≡_, refl, sym, ap, _∙_}
+use mathlib.Core.Path.{_≡_, sym, ap, _∙_}
 use mathlib.Core.Bool.{Bool, true, false, _&&_}
 use mathlib.Core.List.{List}
 use borrow.Author.Tests.{le-leb, lt-leb, leb-true}
 use lib.Dec.{leb}
 use lib.ListN.{length}
+use Rattle.numbers.proofs.Cond.{both}
 use Rattle.table.specs.Slots.{slots}
 use Rattle.machine.specs.State.{running}
 use Rattle.machine.specs.Skeleton.{solid}
@@ -36,10 +37,6 @@ module _ {w w′ : List ℕ} {r r′ : Registers} (code : Code) (b : List ℕ) (
   inline-as len at owes ea t = tried-as (rw (← eo, ← eb, ← ea)) t
 
 -- an operator's body, and the frame that it keeps
-left-on : (a b : Bool) → a && b ≡ true → a ≡ true
-left-on true b e = refl
-left-on false b e = not-on e
-
 module _ (code : Code) (used origin start len first : ℕ) (k : Callee) where
   no-frame : used < first + 50 → leb (first + 50) used && leb (start + len) (length (bytesOf code origin)) ≡ false
   no-frame h = rw (lt-leb (first + 50) used h)
@@ -72,7 +69,7 @@ module _ (code : Code) (used origin start len first : ℕ) (k : Callee) where
     both-there = sym (h .there) ∙ t
 
     pub frame-there : first + 50 ≤ used
-    frame-there = leb-true (first + 50) used (left-on (leb (first + 50) used) (leb (start + len) (length (bytesOf code origin))) both-there)
+    frame-there = leb-true (first + 50) used (both (leb (first + 50) used) (leb (start + len) (length (bytesOf code origin))) both-there .0)
 
 module _ {w : List ℕ} {r : Registers} (code : Code) (origin start len first : ℕ) (g : Busy w r) (k : Callee) (h : Enters code (r .used) origin start len first k) where
   kept-is : kept code origin start len first (abs w r .cells) ≡ k .there

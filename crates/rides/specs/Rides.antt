@@ -11,7 +11,7 @@ use Rattle.state.specs.declared.Registers.{Registers}
 use Rattle.state.specs.Layout.{aside, abs, Good}
 use Rattle.sprints.specs.Swift.{ahead, Executes}
 
--- the running body goes on at p, and bodies that have ended are left; `ok` says that none has
+-- the running body goes on at p, and bodies that have ended are left; `ok`: one is left that runs, and nothing is skipped
 pub record Alighted (p : ℕ) (w : List ℕ) (r : Registers) (w′ : List ℕ) (r′ : Registers) : Type 0 where
   pub good : Good w′ r′
   pub does : abs w′ r′ ≡ settle (ahead p (r .steps) (abs w r))

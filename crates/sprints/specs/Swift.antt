@@ -27,7 +27,7 @@ use Rattle.state.specs.Layout.{stackOf, contextsOf, aside, abs, Good, Busy, Tri
 abbrev pub marked : List ℕ → ℕ → ℕ
 marked w height = length (beneath (stackOf (slots w) height))
 
--- the registers r with another height
+-- the registers r with another height, after an operation that did not fail
 abbrev pub raised : Registers → ℕ → Registers
 raised r h = record { height = h; depth = r .depth; used = r .used; steps = r .steps; errors = r .errors; skipping = r .skipping; ok = true }
 
@@ -98,7 +98,8 @@ pub record Attempted (code : Code) (w : List ℕ) (r : Registers) (w′ : List �
 
 -- ---- several
 
--- the literal at `at` of the bytes b done, but for its place and its step; where nothing was done, nothing is said of it
+-- the literal at `at` of the bytes b done, but for its place and its step, or told to fail (130); of one that was left undone (129) nothing is said.
+-- `number`: the operator there, unless it is 0
 pub record Strides (b : List ℕ) (at : ℕ) (w : List ℕ) (r : Registers) (w′ : List ℕ) (t : Stride) : Type 0 where
   pub stays : Stays w r w′ (t .height)
   pub back : mostEntries < t .height → w′ ≡ w
@@ -108,11 +109,12 @@ pub record Strides (b : List ℕ) (at : ℕ) (w : List ℕ) (r : Registers) (w�
   pub told : (t .number ≡ 0 → ⊥) → tokenAt b at ≡ read.Operator (t .number) (t .next)
   pub does : (t .height ≡ 129 → ⊥) → (code : Code) → Flat (execute code (foundAt b at .literal)) w r w′ (t .height)
 
--- the registers r with another height
+-- the registers r with another height, and no more
 abbrev pub lifted : Registers → ℕ → Registers
 lifted r h = record { height = h; depth = r .depth; used = r .used; steps = r .steps; errors = r .errors; skipping = r .skipping; ok = r .ok }
 
 -- a row of literals from `at` on, at most so many, after n steps: where it has come to, but for the place, the steps and the end of bodies
+-- (`does`); where it tells of the literal there that it is an operator (`here`) or fails (`falls`), no body has ended
 pub record Rowed (code : Code) (b : List ℕ) (at n most : ℕ) (w : List ℕ) (r : Registers) (w′ : List ℕ) (t : Reach) : Type 0 where
   pub fits : t .height ≤ mostEntries
   pub keeps : aside w′ ≡ aside w
