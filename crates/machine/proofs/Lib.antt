@@ -22,6 +22,7 @@ pub mod BodyLocal
 pub mod Readable
 pub mod SoundValues
 pub mod Literals
+pub mod Legible
 pub mod TokenRefusals
 pub mod Skeletons
 pub mod Verdicts

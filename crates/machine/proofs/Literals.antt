@@ -37,26 +37,26 @@ pub record LiteralDue (code : Code) (s : State) : Type 0 where
 -- ---- a step
 
 -- what a readable rest that is not at its end says
-record First (b : List ℕ) (at end : ℕ) : Type 0 where
-  is-literal : IsLiteral b at (foundAt b at)
-  inside : (n start len : ℕ) → foundAt b at .literal ≡ WithBody n start len → Readable b (solid b start) (start + len)
-  rest : Readable b (foundAt b at .next) end
+pub record First (b : List ℕ) (at end : ℕ) : Type 0 where
+  pub is-literal : IsLiteral b at (foundAt b at)
+  pub inside : (n start len : ℕ) → foundAt b at .literal ≡ WithBody n start len → Readable b (solid b start) (start + len)
+  pub rest : Readable b (foundAt b at .next) end
 
-first : (b : List ℕ) (at end : ℕ) → at < end → Readable b at end → First b at end
+pub first : (b : List ℕ) (at end : ℕ) → at < end → Readable b at end → First b at end
 first b at end l at-end = absurd (omega arith)
 first b at end l (literal i p q r) = record { is-literal = p; inside = q; rest = r }
 
 -- any stack and any contexts
-any : Lower (λ _. Unit) (λ _. Unit)
+pub any : Lower (λ _. Unit) (λ _. Unit)
 any = anywhere (λ _. Unit) tt (λ _ _ _. tt)
 
 module _ (code : Code) where
   -- where the running context is known
   module _ (s : State) (h : Held (reading code) s) (due : Due (s .contexts)) (c : Context) (cs : List Context) (e : s .contexts ≡ c ∷ cs) where
-    rest : Rest code (c .origin) (c .at) (c .end)
+    pub rest : Rest code (c .origin) (c .at) (c .end)
     rest = subst (All (λ (d : Context). Rest code (d .origin) (d .at) (d .end))) e (h .contexts-are) .0
 
-    going : atEnd c ≡ false
+    pub going : atEnd c ≡ false
     going = subst Due e due
 
     firstly : First (bytesOf code (c .origin)) (c .at) (c .end)
@@ -67,12 +67,12 @@ module _ (code : Code) where
     unfolding running dueIn
     here-due = record { going = rw e going; is-literal = rw e (firstly .is-literal) }
 
-    here-passes : Passes code (reading code) s
+    pub here-passes : Passes code (reading code) s
     unfolding running dueIn
     here-passes = rw e (record { own = λ n start len z. record { there = rest .there; readable = firstly .inside n start len z }; past = record { there = rest .there; readable = firstly .rest } })
 
   -- whatever the step does
-  step-due : (s : State) → ended (s .contexts) ≡ false → Due (step code s .contexts)
+  pub step-due : (s : State) → ended (s .contexts) ≡ false → Due (step code s .contexts)
   unfolding fault settle failing skipped skippedIn begunIn
   step-due s live = step-by code s (λ r. Due (r .contexts)) Executed live (λ t _. execute-is code _ t) skips
       (λ t _. recover-lands any (t .stack) (t .contexts) tt tt .due) (λ t u _ _. leave-lands any (u .stack) (u .contexts) tt tt .due)
@@ -83,7 +83,7 @@ module _ (code : Code) where
 -- ---- the pages of a master
 
 -- at every moment of every page's run
-moment-ready : (bodies : List (List ℕ)) → ((i : ℕ) → Whole (getD bodies i [])) → (allowance n i : ℕ) → Ready (codeAt bodies n) (moment allowance bodies n i)
+pub moment-ready : (bodies : List (List ℕ)) → ((i : ℕ) → Whole (getD bodies i [])) → (allowance n i : ℕ) → Ready (codeAt bodies n) (moment allowance bodies n i)
 unfolding begin settle preambleOf
 moment-ready bodies whole allowance = moment-held reading (λ s. Due (s .contexts)) (record {
   more = λ pre body cells origin start len first h. stays (pre ∷ []) (body ∷ []) origin start len h;

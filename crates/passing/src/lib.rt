@@ -1,5 +1,5 @@
 // A sequence token passed over. One in a single piece that obeys its rule is judged where it lies, and nothing of it is kept; any other is
-// read. In order: each type's data; the token.
+// read. In order: what is known without that; each type's data; the token.
 ghost use mathlib.Core.Path.{_≡_};
 ghost use mathlib.Core.Bool.{true};
 ghost use Prim.Native.Nat.{ℕ, _+_, _/_, _<_, _≤_};
@@ -23,6 +23,14 @@ use tokens::Piece;
 use tokens::Read;
 use tokens::Rule;
 use tokens::bits::low5;
+
+pub mod known; // tokens that have been judged
+
+// The data of a sequence token, with all that continues it: how many bytes, and where they end.
+pub struct Extent {
+    pub len: usize,
+    pub next: usize,
+}
 
 // Of the integers of up to 4 bytes this value alone, -2147483648, is outside the limits of a number.
 const LEAST: u64 = 2147483648;

@@ -1,12 +1,11 @@
--- Where bodies end, noted for who asks again: for contracts of inner functions alone. In order: the notes; a body's `{`. Assumes nothing.
+-- Where bodies end, noted for who asks again: for contracts of inner functions alone. In order: the notes; a body that has been judged. Assumes nothing.
 use Prim.Native.Nat.{ℕ, _+_, _*_, _%_, _<_, _≤_}
 use mathlib.Core.Path.{_≡_}
 use mathlib.Core.List.{List}
 use lib.ListN.{length, getD, set}
-use Rattle.machine.specs.declared.Went.{Went}
-use Rattle.machine.specs.declared.Went.the-variants.{Past, Stop}
+use Rattle.machine.specs.declared.Went.the-variants.{Past}
 use Rattle.machine.specs.Limits.{mostOpen}
-use Rattle.machine.specs.Skeleton.{opening, due, bodyAt}
+use Rattle.machine.specs.Skeleton.{bodyAt}
 
 -- ---- the notes
 
@@ -25,9 +24,8 @@ pub record Seen (t : List ℕ) (at end : ℕ) : Type 0 where
   pub begins : getD t (2 * (at % 64)) 0 ≡ at
   pub ends : getD t (2 * (at % 64) + 1) 0 ≡ end
 
--- ---- a body's `{`
+-- ---- a body that has been judged
 
--- past the `{` that is due from `at` on, where k more bodies may be open; or what the body is refused for
-abbrev pub Opened : ℕ → List ℕ → ℕ → Went → Type 0
-Opened k s at (Past next) = (0 < k) × (due opening s at ≡ Past next)
-Opened k s at (Stop refusal place) = bodyAt k s at ≡ Stop refusal place
+-- the body due at `at` is read to its end
+abbrev pub Ends : List ℕ → ℕ → Type 0
+Ends s at = (end : ℕ) × (bodyAt mostOpen s at ≡ Past end)

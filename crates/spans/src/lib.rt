@@ -1,19 +1,13 @@
-// A body passed over once: where it ends is noted, and where each body inside it ends, so that none is passed over again. In order: the
-// notes; the pass.
+// A body passed over once: where it ends is noted, and where each body inside it ends, so that none is passed over again. It has been judged
+// and is known to end. In order: the notes; the pass.
 ghost use mathlib.Core.Path.{_≡_};
 ghost use Prim.Native.Nat.{_<_, _≤_};
 ghost use lib.ListN.{length};
 ghost use Rattle.machine.specs.Limits.{mostOpen};
 ghost use Rattle.machine.specs.declared.Went.the-variants.{Past};
-ghost use Rattle.machine.specs.Skeleton.{opening, due, bodyAt};
-ghost use Rattle.spans.specs.Memo.{Noted, withNote, Seen, Opened};
-use machine::Role;
-use machine::Went;
-use nesting::bodies;
+ghost use Rattle.machine.specs.Skeleton.{bodyAt};
+ghost use Rattle.spans.specs.Memo.{Noted, withNote, Seen, Ends};
 use nesting::bodies::MOST_OPEN;
-use nesting::roles;
-use tokens::Form;
-use tokens::Pass;
 
 // ---- the notes
 
@@ -50,103 +44,53 @@ pub fn seen(memo: &[u32], at: usize) -> usize
 
 // ---- the pass
 
-// Past the `{` at `at`, told by its two bytes, where `left` more bodies may be open; 0 if none is told.
-fn opens(s: &[u8], at: usize, left: usize) -> usize
-    ensures { λ r. ⌜ ((r ≡ 0 → ⊥) → (0 < left) × (due opening (now (s .entry)) at ≡ Past r)) ⌝ }
-{
-    if left == 0 {
-        return 0;
-    }
-    if s.len() <= at {
-        return 0;
-    }
-    if s.len() - at < 2 {
-        return 0;
-    }
-    if s[at] != 160 {
-        return 0;
-    }
-    if s[at + 1] != 106 {
-        return 0;
-    }
-    at + 2
-}
+// The first byte of a long operator with a number below 256, which is its second byte.
+const LONG: u8 = 160;
 
-// Past the `{` of a body, which is due from `at` on, where `left` more bodies may be open.
-fn opened(s: &[u8], at: usize, left: usize) -> Went
-    ensures { λ r. ⌜ Opened left (now (s .entry)) at r ⌝ }
-{
-    let open = opens(s, at, left);
-    if open > 0 {
-        return Went::Past { next: open };
-    }
-    let q = bodies::past_comments(s, at);
-    match bodies::due_here(roles::OPEN, s, q) {
-        Went::Past { next } => {
-            if left == 0 {
-                return Went::Stop {
-                    refusal: tokens::Refusal::TooDeep,
-                    place: q,
-                };
-            }
-            Went::Past { next }
-        }
-        Went::Stop { refusal, place } => Went::Stop { refusal, place },
-    }
-}
+const OPEN: u8 = 106;
 
-// The body whose `{` is due from `at` on, literal by literal, whichever body each stands in. `starts` says where the open ones were due.
-fn pass(s: &[u8], at: usize, memo: &mut [u32]) -> Went
-    requires { ⌜ (length (now s) ≤ 16777215) × Noted (now s) (now memo) ⌝ }
-    ensures { λ r. ⌜ (r ≡ bodyAt mostOpen (now (s .entry)) at) × Noted (now (s .entry)) (now (memo .exit)) ⌝ }
+const CLOSE: u8 = 107;
+
+// Where the body ends whose `{` is due from `at` on, by the braces between. `starts` says where the `{` of each open one stands.
+pub fn pass(s: &[u8], at: usize, memo: &mut [u32]) -> usize
+    requires { ⌜ (length (now s) ≤ 16777215) × Noted (now s) (now memo) × Ends (now s) at ⌝ }
+    ensures { λ r. ⌜ (bodyAt mostOpen (now (s .entry)) at ≡ Past r) × Noted (now (s .entry)) (now (memo .exit)) ⌝ }
 {
     let mut starts = [0usize; MOST_OPEN];
     let mut count: usize = 0;
-    let mut due = at;
+    let mut p = at;
     loop {
-        let mut p = match opened(s, due, MOST_OPEN - count) {
-            Went::Past { next } => next,
-            Went::Stop { refusal, place } => return Went::Stop { refusal, place },
-        };
-        starts[count] = due;
-        count += 1;
-        loop {
-            p = match tokens::forms::form_at(s, p) {
-                Form::Number { raw: _, next } => next,
-                Form::Operator { number, next } => match roles::role_of(number) {
-                    Role::Plain => next,
-                    Role::Closes => {
-                        count -= 1;
-                        note(memo, starts[count], next);
-                        if count == 0 {
-                            return Went::Past { next };
-                        }
-                        next
-                    }
-                    Role::Holds => {
-                        due = next;
-                        break;
-                    }
-                    Role::Barred => return bodies::not_allowed(p),
-                },
-                Form::Sequence => match passing::pass_sequence(s, p) {
-                    Pass::Over { next } => next,
-                    Pass::Unread { refusal, place } => return Went::Stop { refusal, place },
-                },
-                Form::Cut => return bodies::cut_off(p),
-            };
+        if s[p] != LONG {
+            p = passing::known::past(s, p);
+            continue;
         }
+        let n = s[p + 1];
+        let next = p + 2;
+        if n == OPEN {
+            starts[count] = p;
+            count += 1;
+            p = next;
+            continue;
+        }
+        if n == CLOSE {
+            count -= 1;
+            note(memo, starts[count], next);
+            if count == 0 {
+                return next;
+            }
+        }
+        p = next;
     }
 }
 
-// The body whose `{` is due from `at` on, by the notes or passed over.
-pub fn span_of(s: &[u8], at: usize, memo: &mut [u32]) -> Went
-    requires { ⌜ (length (now s) ≤ 16777215) × Noted (now s) (now memo) ⌝ }
-    ensures { λ r. ⌜ (r ≡ bodyAt mostOpen (now (s .entry)) at) × Noted (now (s .entry)) (now (memo .exit)) ⌝ }
+// Where the body ends whose `{` is due from `at` on, by the notes or passed over.
+pub fn span_of(s: &[u8], at: usize, memo: &mut [u32]) -> usize
+    requires { ⌜ (length (now s) ≤ 16777215) × Noted (now s) (now memo) × Ends (now s) at ⌝ }
+    ensures { λ r. ⌜ (bodyAt mostOpen (now (s .entry)) at ≡ Past r) × Noted (now (s .entry)) (now (memo .exit)) ⌝ }
 {
     let end = seen(memo, at);
     if end == 0 {
         return pass(s, at, memo);
     }
-    Went::Past { next: end }
+    end
 }

@@ -1,6 +1,7 @@
--- `spans::span_of` meets its contract: what is noted, or the pass. Assumes nothing.
-use borrow.Author.Needs.{needs}
 use Rattle.spans.proofs.SpanTurns.{seen-ends}
+use mathlib.Core.Path.{_≡_, refl, sym, ap, _∙_}
+use native.Mathlib.Omega.{arith}
+use borrow.Author.Needs.{needs}
 use Rattle.spans.proofs.span_of.Statement.{statement}
 use Rattle.spans.proofs.span_of.Tie as tie
 
@@ -13,4 +14,4 @@ span-of-spec =
     (λ c. search needs)
     (λ c. search needs)
     (λ c. search needs)
-    (λ c. let n = c .before .before .before .before .before .pre .1 in (seen-ends n (c .before .seen .ensures (c .if1 .left)), n)))
+    (λ c. (sym (seen-ends (c .before .before .before .before .before .pre .1) (c .before .seen .ensures (c .if1 .left))), c .before .before .before .before .before .pre .1)))
