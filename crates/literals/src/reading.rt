@@ -1,15 +1,12 @@
-// The literal at a place: through the token reader alone. A body operator with its body is one literal.
+// The literal at a place of bytes that have been judged. A body operator with its body is one literal.
 ghost use mathlib.Core.Path.{_≡_};
 ghost use Prim.Native.Nat.{_<_, _≤_};
 ghost use lib.ListN.{length, getD};
-ghost use Rattle.tokens.specs.Token.{tokenAt};
-ghost use Rattle.machine.proofs.Comments.{NoComment};
 ghost use Rattle.machine.specs.Literal.{found, nothingAt, holdingAt, operatorBy, foundAt};
 ghost use Rattle.machine.specs.declared.Role.the-variants.{Holds};
 ghost use Rattle.machine.specs.Skeleton.{roleOf};
-ghost use Rattle.machine.specs.Step.{isUnmark0};
-ghost use Rattle.spans.specs.Memo.{Noted};
-ghost use Rattle.literals.specs.Dues.{Is, Passes, Tells};
+ghost use Rattle.spans.specs.Memo.{Noted, Ends};
+ghost use Rattle.literals.specs.Dues.{Stands, Is, Passes, PastOperator, Tells};
 use crate::Ahead;
 use crate::Bare;
 use crate::Due;
@@ -39,24 +36,18 @@ fn nothing(b: &[u8]) -> Due
 
 // The operator n with the body that is due from `next` on.
 fn holding(b: &[u8], n: u16, next: usize, memo: &mut [u32]) -> Due
-    requires { ⌜ (length (now b) ≤ 16777215) × (next ≤ length (now b)) × Noted (now b) (now memo) ⌝ }
+    requires { ⌜ (length (now b) ≤ 16777215) × Noted (now b) (now memo) × Ends (now b) next ⌝ }
     ensures { λ r. ⌜ Is (holdingAt (now (b .entry)) n next) r × Noted (now (b .entry)) (now (memo .exit)) ⌝ }
 {
-    match spans::span_of(b, next, memo) {
-        machine::Went::Past { next: end } => {
-            let start = nesting::bodies::past_comments(b, next) + 2;
-            let literal = Literal::WithBody {
-                number: n,
-                start: table::words::word(start),
-                len: table::words::word(end - 2 - start),
-            };
-            found(b, literal, end)
-        }
-        machine::Went::Stop {
-            refusal: _,
-            place: _,
-        } => nothing(b),
-    }
+    let open = nesting::bodies::past_comments(b, next);
+    let end = spans::span_of(b, open, memo);
+    let start = open + 2;
+    let literal = Literal::WithBody {
+        number: n,
+        start: table::words::word(start),
+        len: table::words::word(end - 2 - start),
+    };
+    found(b, literal, end)
 }
 
 // The operator n, which ends at `next` and holds no body.
@@ -72,7 +63,7 @@ fn bodiless(b: &[u8], role: Role, n: u16, next: usize) -> Due
 
 // The operator n, which ends at `next`.
 fn operator(b: &[u8], n: u16, next: usize, memo: &mut [u32]) -> Due
-    requires { ⌜ (length (now b) ≤ 16777215) × (next ≤ length (now b)) × Noted (now b) (now memo) ⌝ }
+    requires { ⌜ (length (now b) ≤ 16777215) × Noted (now b) (now memo) × (roleOf n ≡ Holds → Ends (now b) next) ⌝ }
     ensures { λ r. ⌜ Is (operatorBy (roleOf n) (now (b .entry)) n next) r × Noted (now (b .entry)) (now (memo .exit)) ⌝ }
 {
     let role = nesting::roles::role_of(n);
@@ -83,7 +74,7 @@ fn operator(b: &[u8], n: u16, next: usize, memo: &mut [u32]) -> Due
 }
 
 // A number, a name or a string at `at`, if the sequence token there is one.
-pub fn due_sequence(b: &[u8], at: usize) -> Due
+fn read_sequence(b: &[u8], at: usize) -> Due
     requires { ⌜ (length (now b) ≤ 16777215) × ((at < length (now b)) × (192 ≤ getD (now b) at 0)) ⌝ }
     ensures { λ r. ⌜ Is (foundAt (now (b .entry)) at) r ⌝ }
 {
@@ -111,12 +102,41 @@ pub fn due_sequence(b: &[u8], at: usize) -> Due
     }
 }
 
+// The types of a string and of an identifier.
+pub const TEXT: u8 = 1;
+
+const NAME: u8 = 5;
+
+// A number, a name or a string at `at`. Only numbers are read: of the others it is enough where they end.
+pub fn due_sequence(b: &[u8], at: usize) -> Due
+    requires { ⌜ (length (now b) ≤ 16777215) × ((at < length (now b)) × (192 ≤ getD (now b) at 0)) × Stands (now b) at ⌝ }
+    ensures { λ r. ⌜ Is (foundAt (now (b .entry)) at) r ⌝ }
+{
+    let kind = tokens::bits::low5(b[at]);
+    if kind == TEXT {
+        let x = passing::known::extent(b, at);
+        let text = Literal::Text {
+            start: table::words::word(at),
+        };
+        return found(b, text, x.next);
+    }
+    if kind == NAME {
+        let x = passing::known::extent(b, at);
+        let name = Literal::Name {
+            start: table::words::word(at),
+            len: table::words::word(x.len),
+        };
+        return found(b, name, x.next);
+    }
+    read_sequence(b, at)
+}
+
 // The literal at `at`. `memo` has notes on where bodies of b end, and is left with more.
 pub fn due(b: &[u8], at: usize, memo: &mut [u32]) -> Due
-    requires { ⌜ (length (now b) ≤ 16777215) × Noted (now b) (now memo) ⌝ }
+    requires { ⌜ (length (now b) ≤ 16777215) × Noted (now b) (now memo) × Stands (now b) at ⌝ }
     ensures { λ r. ⌜ Is (foundAt (now (b .entry)) at) r × Noted (now (b .entry)) (now (memo .exit)) ⌝ }
 {
-    match tokens::forms::form_at(b, at) {
+    match passing::known::form(b, at) {
         tokens::Form::Number { raw, next } => {
             let value = reader::reading::short_value(raw);
             found(b, Literal::Figure(value), next)
@@ -155,74 +175,43 @@ pub fn bare_operator(b: &[u8], at: usize) -> Bare
 
 // ---- literals that are passed over
 
-fn is_unmark0(x: Literal) -> bool
-    ensures { λ r. ⌜ r ≡ isUnmark0 x ⌝ }
+// Past the operator n, which ends at `next`, and the body that it may hold; what is noted of that is not kept.
+fn past_operator(b: &[u8], n: u16, next: usize) -> usize
+    requires { ⌜ (length (now b) ≤ 16777215) × (roleOf n ≡ Holds → Ends (now b) next) ⌝ }
+    ensures { λ r. ⌜ PastOperator (now (b .entry)) n next r ⌝ }
 {
-    match x {
-        Literal::Plain { number } => number == 192,
-        _ => false,
-    }
-}
-
-fn told(d: Due) -> Ahead
-    ensures { λ r. ⌜ (r .next ≡ d .next) × (r .unmarks ≡ isUnmark0 (d .literal)) ⌝ }
-{
-    let x = d.literal;
-    Ahead {
-        next: d.next,
-        unmarks: is_unmark0(x),
-    }
-}
-
-// A number, a name or a string, where no comment stands.
-fn past_sequence(b: &[u8], at: usize) -> Ahead
-    requires { ⌜ (length (now b) ≤ 16777215) × NoComment (tokenAt (now b) at) × ((at < length (now b)) × (192 ≤ getD (now b) at 0)) ⌝ }
-    ensures { λ r. ⌜ Passes (foundAt (now (b .entry)) at) r ⌝ }
-{
-    match passing::pass_sequence(b, at) {
-        tokens::Pass::Over { next } => Ahead {
-            next: nesting::bodies::past_comments(b, next),
-            unmarks: false,
-        },
-        tokens::Pass::Unread {
-            refusal: _,
-            place: _,
-        } => told(nothing(b)),
-    }
-}
-
-// The operator n, which ends at `next`; what is noted of its body is not kept.
-fn passed_operator(b: &[u8], n: u16, next: usize) -> Due
-    requires { ⌜ (length (now b) ≤ 16777215) × (next ≤ length (now b)) ⌝ }
-    ensures { λ r. ⌜ Is (operatorBy (roleOf n) (now (b .entry)) n next) r ⌝ }
-{
-    let role = nesting::roles::role_of(n);
-    match role {
+    match nesting::roles::role_of(n) {
         Role::Holds => {
             let mut memo = [0u32; WORDS];
-            holding(b, n, next, &mut memo)
+            nesting::bodies::past_comments(b, spans::pass(b, next, &mut memo))
         }
-        _ => bodiless(b, role, n, next),
+        _ => nesting::bodies::past_comments(b, next),
     }
 }
 
-// The literal at `at`, for skipping: most are not read but only passed over.
+const UNMARK0: u16 = 192;
+
+// The literal at `at`, for skipping: it is not read but only passed over.
 pub fn ahead(b: &[u8], at: usize) -> Ahead
-    requires { ⌜ length (now b) ≤ 16777215 ⌝ }
+    requires { ⌜ (length (now b) ≤ 16777215) × Stands (now b) at ⌝ }
     ensures { λ r. ⌜ Passes (foundAt (now (b .entry)) at) r ⌝ }
 {
-    match tokens::forms::form_at(b, at) {
+    match passing::known::form(b, at) {
         tokens::Form::Number { raw: _, next } => Ahead {
             next: nesting::bodies::past_comments(b, next),
             unmarks: false,
         },
-        tokens::Form::Operator { number, next } => told(passed_operator(b, number, next)),
-        tokens::Form::Sequence => {
-            if nesting::bodies::is_solid(b, at) {
-                return past_sequence(b, at);
-            }
-            told(due_sequence(b, at))
-        }
-        tokens::Form::Cut => told(nothing(b)),
+        tokens::Form::Operator { number, next } => Ahead {
+            next: past_operator(b, number, next),
+            unmarks: number == UNMARK0,
+        },
+        tokens::Form::Sequence => Ahead {
+            next: nesting::bodies::past_comments(b, passing::known::extent(b, at).next),
+            unmarks: false,
+        },
+        tokens::Form::Cut => Ahead {
+            next: at,
+            unmarks: false,
+        },
     }
 }

@@ -21,7 +21,7 @@ use Rattle.machine.proofs.Inside.{EndsIn, token-inside, WentIn, went-lower, bod
 use Rattle.machine.proofs.Comments.{comments-are}
 use Rattle.literals.specs.declared.Ahead.{Ahead}
 use Rattle.literals.specs.declared.Due.{Due}
-use Rattle.literals.specs.Dues.{Is, Passes}
+use Rattle.literals.specs.Dues.{Stands, Is, Passes}
 use Rattle.literals.proofs.Passing.{comments-end, solid-inside}
 use Rattle.names.specs.Names.{both}
 use Rattle.tokens.proofs.Theorems.{token-end}
@@ -95,6 +95,12 @@ pub ahead-fits : (b : List ℕ) (at : ℕ) (a : Ahead) → length b ≤ 16777215
 ahead-fits b at a l p = omega (arith, p .next, next-inside b at)
 
 -- ---- a literal by the notes
+
+pub stands-early : (pre body : List ℕ) (o at : ℕ) → o ≡ 0 → Stands (bytesOf (both pre body) o) at → Stands pre at
+stands-early pre body o at e h = rw e at h
+
+pub stands-own : (pre body : List ℕ) (o at : ℕ) → o ≡ 1 → Stands (bytesOf (both pre body) o) at → Stands body at
+stands-own pre body o at e h = rw e at h
 
 module _ {d : Due} {t u : List ℕ} (pre body : List ℕ) (o at : ℕ) (g : Noting pre body t u) where
   pub due-early : {t′ : List ℕ} → o ≡ 0 → Is (foundAt pre at) d × Noted pre t′ → Is (foundAt (bytesOf (both pre body) o) at) d × Noting pre body t′ u

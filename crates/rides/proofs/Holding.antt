@@ -1,4 +1,4 @@
--- IF, CORRECT and IFCOPY in the words of the table. Assumes nothing.
+-- IF in the words of the table, CORRECT and IFCOPY. Assumes nothing.
 use Prim.Native.Nat.{ℕ, _+_, _-_, _≤_, _<_}
 use native.Mathlib.Omega.{arith}
 use mathlib.Core.Path.{_≡_, refl, sym, _∙_}
@@ -21,8 +21,9 @@ use Rattle.machine.specs.Literal.{Code, bytesOf}
 use Rattle.machine.specs.Operators.{bodyOpOf, popped, performed}
 use Rattle.machine.specs.Operand.{cardinal?}
 use Rattle.machine.specs.Ops.Control.{bodyArity, bodyEffect}
+use Rattle.machine.specs.State.{State}
 use Rattle.machine.specs.Contexts.{above}
-use Rattle.machine.specs.Engine.{provided, pops, inline, affected, does}
+use Rattle.machine.specs.Engine.{limited, provided, pops, inline, worked, affected, does}
 use Rattle.machine.specs.Step.{effectAt, execute}
 use Rattle.operands.specs.declared.Card.{Card}
 use Rattle.operands.specs.declared.Card.the-variants.{No, Is}
@@ -32,12 +33,13 @@ use Rattle.state.specs.declared.Registers.{Registers}
 use Rattle.state.specs.declared.Tops.{Tops}
 use Rattle.state.specs.Layout.{valueIn, stackOf, Busy, answer, Tried, Topmost}
 use Rattle.state.specs.Operations as table
-use Rattle.state.proofs.Trying.{trying, failed, tried-as, tried-no}
+use Rattle.state.proofs.Trying.{trying, failed, tried-no}
 use Rattle.state.proofs.Cutting.{over-above}
 use Rattle.effects.proofs.Acting.{is-acts, by-works, by-inline, nothing-done, is-fail}
 use Rattle.effects.proofs.Executing.{busy-lower, holder-few, holder-done}
 use Rattle.effects.proofs.Working.{inline-as}
 use Rattle.sprints.specs.Swift.{origin}
+use Rattle.sprints.proofs.Flatness.{flat}
 
 -- ---- IF
 
@@ -80,21 +82,28 @@ module _ {w : List ℕ} {r : Registers} (code : Code) (start len : ℕ) (t : Top
 
 -- ---- CORRECT and IFCOPY
 
-passes-over : (n : ℕ) → OneOf (110 ∷ 239 ∷ 240 ∷ []) n → (n ≡ 239 → ⊥) → PassOver ≡ bodyOpOf n
+passes-over : (n : ℕ) → OneOf (110 ∷ 240 ∷ []) n → PassOver ≡ bodyOpOf n
 unfolding bodyOpOf
-passes-over n (inl e) f = rw e
-passes-over n (inr (inl e)) f = absurd (f e)
-passes-over n (inr (inr e)) f = rw e
+passes-over n (inl e) = rw e
+passes-over n (inr e) = rw e
 
-pub passed-over : {w : List ℕ} {r r′ : Registers} (code : Code) (n start len : ℕ) → Busy w r → OneOf (110 ∷ 239 ∷ 240 ∷ []) n → (n ≡ 239 → ⊥) → r′ ≡ trying r (r .height) (r .depth) (r .used) true → Tried (execute code (WithBody n start len)) w r w r′
-unfolding execute provided popped effectAt performed bodyArity bodyEffect affected does pops
-passed-over {w} {r} {r′} code n start len g o f q =
-    tried-as (rw (← (passes-over n o f), le-leb 0 (length (above (stackOf (slots w) (r .height)))) (omega arith), over-above (stackOf (slots w) (r .height)))) (nothing-done code g q)
+-- they leave everything as it is, wherever their body goes on
+module _ (code : Code) (n start len : ℕ) (s : State) (o : OneOf (110 ∷ 240 ∷ []) n) where
+  pub over-flat : flat (effectAt (WithBody n start len) s) ≡ true
+  unfolding effectAt performed bodyEffect
+  over-flat = rw (← (passes-over n o))
+
+  pub over-is : execute code (WithBody n start len) s ≡ limited s
+  unfolding execute provided popped effectAt performed bodyArity bodyEffect affected does pops worked
+  over-is = rw (← (passes-over n o), le-leb 0 (length (above (s .stack))) (omega arith), over-above (s .stack))
 
 -- ---- the literal at a place
 
-pub held-role : (n : ℕ) → OneOf (110 ∷ 239 ∷ 240 ∷ []) n → roleOf n ≡ role.Holds
+pub over-role : (n : ℕ) → OneOf (110 ∷ 240 ∷ []) n → roleOf n ≡ role.Holds
 unfolding roleOf oneOf
-held-role n (inl e) = rw e
-held-role n (inr (inl e)) = rw e
-held-role n (inr (inr e)) = rw e
+over-role n (inl e) = rw e
+over-role n (inr e) = rw e
+
+pub if-role : (n : ℕ) → n ≡ 239 → roleOf n ≡ role.Holds
+unfolding roleOf oneOf
+if-role n e = rw e

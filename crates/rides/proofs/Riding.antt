@@ -19,25 +19,36 @@ use Rattle.machine.specs.declared.Op.{Op}
 use Rattle.machine.specs.declared.Op.the-variants.{Calls, OnStack}
 use Rattle.machine.specs.declared.StackOp.the-variants.{Mark}
 use Rattle.machine.specs.declared.CallOp.the-variants.{Do}
+use Rattle.machine.specs.declared.Role.the-variants as role
 use Rattle.machine.specs.declared.Went.the-variants.{Past}
 use Rattle.machine.specs.Limits.{mostOpen}
-use Rattle.machine.specs.Skeleton.{solid, bodyAt}
+use Rattle.machine.specs.Skeleton.{roleOf, solid, bodyAt}
 use Rattle.machine.specs.Literal.{Code, bytesOf, Found, holdingBy, holdingAt, operatorBy, foundBy, foundAt}
 use Rattle.machine.specs.Operators.{opOf}
 use Rattle.machine.specs.Contexts.{settle}
 use Rattle.machine.specs.Step.{execute, executed, begun, step, run}
 use Rattle.machine.proofs.Inside.{token-inside}
+use Rattle.machine.proofs.Legible.{Legible, going-on, going-literal}
 use Rattle.state.specs.declared.Registers.{Registers}
 use Rattle.state.specs.Layout.{contextsOf, contextAt, contextIn, goesTo, aside, abs, Good, Busy, Done, Begun}
 use Rattle.state.proofs.Parts.{contexts-top, contexts-at}
 use Rattle.state.proofs.Ending.{not-on}
+use Rattle.state.proofs.Trying.{fits-abs}
+use Rattle.spans.specs.Memo.{Ends}
+use Rattle.spans.proofs.SpanTurns.{end-fits}
+use Rattle.names.specs.Names.{both}
+use Rattle.origins.proofs.ByOrigin.{nothing-there}
+use Rattle.literals.proofs.Standing.{solid-body, stands-solid}
+use Rattle.nesting.proofs.BodyTurns.{stands-at}
+use Rattle.numbers.proofs.Cond.{split}
 use Rattle.contexts.proofs.Entering.{begin-done}
 use Rattle.sprints.specs.declared.Reach.{Reach}
-use Rattle.sprints.specs.Swift.{origin, ending, ahead, Rowed}
-use Rattle.sprints.proofs.Ahead.{moved-same, begun-is, ended-ahead, settle-ahead, due-ahead}
-use Rattle.sprints.proofs.Swiftly.{known, op-role, by-number, run-last, none-run, good-as}
-use Rattle.rides.specs.Rides.{Paced, Alighted, Led}
-use Rattle.rides.proofs.Holding.{held-role}
+use Rattle.sprints.specs.Swift.{origin, ending, ahead, lifted, Left, Rowed}
+use Rattle.sprints.proofs.Ahead.{moved-same, execute-free, begun-is, ended-ahead, settle-ahead, due-ahead, step-ahead}
+use Rattle.sprints.proofs.Swiftly.{known, op-role, by-number, not-ended, run-last, none-run, good-as}
+use Rattle.rides.specs.declared.Further.{Further}
+use Rattle.rides.specs.Rides.{Paced, Alighted, Led, Goes}
+use Rattle.rides.proofs.Holding.{over-flat, over-is, over-role, if-role}
 
 -- ---- the running body
 
@@ -55,6 +66,13 @@ unfolding running contextIn
 seat-is w depth c at end h e ea ee =
     let l = contexts-at (slots w) depth c h e in
     (sym (ap (λ (x : List Context). running x .origin) l), ea ∙ sym (ap (λ (x : List Context). running x .at) l), ee ∙ sym (ap (λ (x : List Context). running x .end) l))
+
+-- the literals that are left of it
+pub left-there : (code : Code) (w : List ℕ) (r : Registers) (b : List ℕ) (at end : ℕ) → Legible code (abs w r) → 0 < r .depth → b ≡ bytesOf code (origin w (r .depth)) → at ≡ running (contextsOf (slots w) (r .depth)) .at
+    → end ≡ ending w (r .depth) → Left b at end
+left-there code w r b at end h runs eb ea ee =
+    let g = going-on code (abs w r) h (not-ended (slots w) (r .depth) runs) in
+    rw (eb, ea, ee) (g .before, rw (← (stands-at _ _ (stands-solid _ (going-literal g)))) (g .readable))
 
 start-ahead : (w : List ℕ) (r : Registers) (at : ℕ) → at ≡ running (contextsOf (slots w) (r .depth)) .at → abs w r ≡ ahead at (r .steps) (abs w (held r))
 start-ahead w r at e =
@@ -124,15 +142,32 @@ pub mark-found : (b : List ℕ) (at n next m : ℕ) → tokenAt b at ≡ read.Op
 mark-found b at n next m e z em = plain-there b at n next m 186 (OnStack Mark) e z em (by-number .11) refl
 
 -- an operator with its body
-pub held-found : (b : List ℕ) (at n next end : ℕ) → tokenAt b at ≡ read.Operator n next → OneOf (110 ∷ 239 ∷ 240 ∷ []) n → bodyAt mostOpen b next ≡ Past end
+held-found : (b : List ℕ) (at n next end : ℕ) → tokenAt b at ≡ read.Operator n next → roleOf n ≡ role.Holds → bodyAt mostOpen b next ≡ Past end
     → foundAt b at ≡ record { literal = WithBody n (solid b next + 2) (end - 2 - (solid b next + 2)); next = solid b end }
 unfolding foundAt foundBy operatorBy holdingAt holdingBy
-held-found b at n next end e o h = rw (e, held-role n o, h)
+held-found b at n next end e r h = rw (e, r, h)
 
-pub held-some : (n : ℕ) → OneOf (110 ∷ 239 ∷ 240 ∷ []) n → n ≡ 0 → ⊥
-held-some n (inl e) z = omega arith
-held-some n (inr (inl e)) z = omega arith
-held-some n (inr (inr e)) z = omega arith
+pub if-found : (b : List ℕ) (at n next brace end : ℕ) → tokenAt b at ≡ read.Operator n next → n ≡ 239 → brace ≡ solid b next → bodyAt mostOpen b brace ≡ Past end
+    → foundAt b at ≡ record { literal = WithBody 239 (brace + 2) (end - 2 - (brace + 2)); next = solid b end }
+if-found b at n next brace end e z q h = rw (q, ← z) (held-found b at n next end e (if-role n z) (sym (solid-body b next brace q) ∙ h))
+
+-- of the same bytes
+pub goes-as : {b c : List ℕ} {n next at left : ℕ} {u : Further} → b ≡ c → Goes c n next at left u → Goes b n next at left u
+goes-as e h = rw e h
+
+pub body-as : {b c : List ℕ} {end : ℕ} (at : ℕ) → b ≡ c → bodyAt mostOpen c at ≡ Past end → bodyAt mostOpen b at ≡ Past end
+body-as at e h = rw e h
+
+-- where there are no bytes, no body ends
+pub no-body : (pre body : List ℕ) (o next : ℕ) → (o ≡ 0 → ⊥) → (o ≡ 1 → ⊥) → Ends (bytesOf (both pre body) o) next → ⊥
+no-body pre body o next f g e =
+    let h : Ends [] next = rw (← (nothing-there pre body o f g)) at e in
+    let k = end-fits [] next (h .0) (h .1) in
+    omega (arith, k .0)
+
+pub over-some : (n : ℕ) → OneOf (110 ∷ 240 ∷ []) n → n ≡ 0 → ⊥
+over-some n (inl e) z = omega arith
+over-some n (inr e) z = omega arith
 
 pub next-inside : (b : List ℕ) (at n next : ℕ) → tokenAt b at ≡ read.Operator n next → next ≤ length b
 next-inside b at n next e = (rw e at (token-inside b at)) .1
@@ -152,6 +187,47 @@ module _ (code : Code) (b w w₁ : List ℕ) (r : Registers) (at most : ℕ) (t 
 
   pub bytes-row : b ≡ bytesOf code (origin w₁ (r .depth))
   bytes-row = rw (o .stays) eb
+
+  -- gone on past an operator and the body that it passes over
+  module _ (u : Further) (go : Goes b (t .number) (t .next) (t .at) (t .left) u) (token : (t .number ≡ 0 → ⊥) → tokenAt b (t .at) ≡ read.Operator (t .number) (t .next)) where
+    abbrev pub beyond : Reach
+    beyond = record { height = t .height; left = u .left; at = u .at; failed = false; number = 0; next = u .at }
+
+    over-does : u .left < t .left → run (most - u .left) code (ahead at (r .steps) (abs w (held r))) ≡ settle (ahead (solid b (u .at)) (r .steps + (most - u .left)) (abs w₁ (lifted (held r) (t .height))))
+    over-does l =
+        let p = go .passes l in
+        let s : State = abs w₁ (lifted (held r) (t .height)) in
+        let c = contextAt (slots w₁) (r .depth - 1) in
+        let cs = contextsOf (slots w₁) (r .depth - 1) in
+        let top : s .contexts ≡ c ∷ cs = contexts-top (slots w₁) (r .depth) runs in
+        let here = o .here (over-some (t .number) (p .0)) in
+        let k : most - u .left ≡ suc (most - t .left) = omega (arith, p .1) in
+        let n : r .steps + suc (most - t .left) ≡ suc (r .steps + (most - t .left)) = omega arith in
+        let x : Literal = WithBody (t .number) (solid b (t .next) + 2) (u .at - 2 - (solid b (t .next) + 2)) in
+        let found = held-found b (t .at) (t .number) (t .next) (u .at) (token (over-some (t .number) (p .0))) (over-role (t .number) (p .0)) (p .2) in
+        rw (k, n)
+        (run-last code (most - t .left) (ahead at (r .steps) (abs w (held r))) (rw here (ended-ahead s c cs top (t .at) (r .steps + (most - t .left)))) ∙ ap (step code) here
+        ∙ step-ahead s c cs top code b (t .at) (r .steps + (most - t .left)) (solid b (u .at)) x bytes-row found quiet s
+        (execute-free code (solid b (u .at)) (suc (r .steps + (most - t .left))) x s (over-flat code (t .number) _ _ s (p .0)))
+        (over-is code (t .number) _ _ s (p .0) ∙ fits-abs w₁ (lifted (held r) (t .height)) (o .fits) (g .depth-fits) (g .cells-fit)))
+
+    pub rowed-beyond : Rowed code b at (r .steps) most w (held r) w₁ beyond
+    rowed-beyond = record {
+      fits = o .fits;
+      keeps = o .keeps;
+      long = o .long;
+      stays = o .stays;
+      ends = o .ends;
+      idle = λ e. o .idle (omega (arith, go .fewer));
+      here = λ f. absurd (f refl);
+      falls = λ f. not-on f;
+      does = λ l. split (u .left) (t .left) over-does (λ h. let z : u .left ≡ t .left = omega (arith, go .fewer) in rw (z, go .stays z) (o .does (omega arith)));
+    }
+
+    pub beyond-fits : u .left < most → (t .left < most → t .at ≤ length b) → u .at ≤ length b
+    beyond-fits h f =
+        split (u .left) (t .left) (λ l. end-fits b (t .next) (u .at) (go .passes l .2) .1)
+        (λ l. let z : u .left ≡ t .left = omega (arith, go .fewer) in rw (go .stays z) (f (omega arith)))
 
   -- a literal that is due after it
   module _ {w₂ : List ℕ} {z : Registers} (x : Literal) (m : ℕ) (on : run (most - t .left) code (ahead at (r .steps) (abs w (held r))) ≡ ahead (t .at) (r .steps + (most - t .left)) (abs w₁ (after r most t true)))

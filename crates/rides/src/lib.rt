@@ -17,14 +17,14 @@ ghost use Rattle.machine.specs.Skeleton.{solid, bodyAt};
 ghost use Rattle.machine.specs.Literal.{Code, bytesOf};
 ghost use Rattle.machine.specs.Engine.{inline};
 ghost use Rattle.machine.specs.Step.{execute, begun};
+ghost use Rattle.machine.proofs.Legible.{Legible};
 ghost use Rattle.names.specs.Names.{both};
 ghost use Rattle.state.specs.Layout.{contextsOf, abs, Good, Busy, Tried};
-ghost use Rattle.spans.specs.Memo.{Noted};
+ghost use Rattle.spans.specs.Memo.{Ends};
 ghost use Rattle.origins.specs.Bodies.{Short, Noting};
 ghost use Rattle.sprints.specs.Swift.{origin, ending};
-ghost use Rattle.rides.specs.Rides.{Paced, Alighted, Led};
+ghost use Rattle.rides.specs.Rides.{Paced, Alighted, Led, Goes};
 use machine::Value;
-use machine::Went;
 use operands::Card;
 use state::Registers;
 
@@ -159,63 +159,7 @@ fn pace_fault(w: &mut [u8], r: Registers, next: usize) -> Registers
 
 // ---- operators that hold a body
 
-// CORRECT, IF or IFCOPY.
-fn is_held(number: u16) -> bool
-    ensures { λ r. ⌜ (r ≡ true → OneOf (110 ∷ 239 ∷ 240 ∷ []) number) ⌝ }
-{
-    if number == 110 {
-        return true;
-    }
-    if number == 239 {
-        return true;
-    }
-    number == 240
-}
-
-// Where the body that is due at `next` ends, if it is one of an operator that is done here; 0 if it is not, or if there is none.
-fn held_end(
-    pre: &[u8],
-    body: &[u8],
-    early: &mut [u32],
-    notes: &mut [u32],
-    origin: u32,
-    number: u16,
-    next: usize,
-) -> usize
-    requires { ⌜ Short (now pre) (now body) × Noting (now pre) (now body) (now early) (now notes) ⌝ }
-    ensures { λ r. ⌜ ((r ≡ 0 → ⊥) → OneOf (110 ∷ 239 ∷ 240 ∷ []) number × (bodyAt mostOpen (bytesOf (both (now (pre .entry)) (now (body .entry))) origin) next ≡ Past r)) × Noting (now (pre .entry)) (now (body .entry)) (now (early .exit)) (now (notes .exit)) ⌝ }
-{
-    if is_held(number) {
-        return span_end(pre, body, early, notes, origin, next);
-    }
-    0
-}
-
-fn past_end(went: Went) -> usize
-    ensures { λ r. ⌜ ((r ≡ 0 → ⊥) → went ≡ Past r) ⌝ }
-{
-    match went {
-        Went::Past { next } => next,
-        Went::Stop {
-            refusal: _,
-            place: _,
-        } => 0,
-    }
-}
-
-// Where the body of s that is due at `next` ends, by the notes or passed over; 0 if there is none.
-fn noted_end(s: &[u8], next: usize, memo: &mut [u32]) -> usize
-    requires { ⌜ (length (now s) ≤ 16777215) × Noted (now s) (now memo) ⌝ }
-    ensures { λ r. ⌜ ((r ≡ 0 → ⊥) → bodyAt mostOpen (now (s .entry)) next ≡ Past r) × Noted (now (s .entry)) (now (memo .exit)) ⌝ }
-{
-    let end = spans::seen(memo, next);
-    if end > 0 {
-        return end;
-    }
-    past_end(spans::span_of(s, next, memo))
-}
-
-// Where the body that is due at `next` ends, 0 if there is none.
+// Where the body ends that is due at `next` of the bytes with that origin.
 fn span_end(
     pre: &[u8],
     body: &[u8],
@@ -224,16 +168,56 @@ fn span_end(
     origin: u32,
     next: usize,
 ) -> usize
-    requires { ⌜ Short (now pre) (now body) × Noting (now pre) (now body) (now early) (now notes) ⌝ }
-    ensures { λ r. ⌜ ((r ≡ 0 → ⊥) → bodyAt mostOpen (bytesOf (both (now (pre .entry)) (now (body .entry))) origin) next ≡ Past r) × Noting (now (pre .entry)) (now (body .entry)) (now (early .exit)) (now (notes .exit)) ⌝ }
+    requires { ⌜ Short (now pre) (now body) × Noting (now pre) (now body) (now early) (now notes) × Ends (bytesOf (both (now pre) (now body)) origin) next ⌝ }
+    ensures { λ r. ⌜ (bodyAt mostOpen (bytesOf (both (now (pre .entry)) (now (body .entry))) origin) next ≡ Past r) × Noting (now (pre .entry)) (now (body .entry)) (now (early .exit)) (now (notes .exit)) ⌝ }
 {
     if origin == 0 {
-        return noted_end(pre, next, early);
+        return spans::span_of(pre, next, early);
     }
     if origin == 1 {
-        return noted_end(body, next, notes);
+        return spans::span_of(body, next, notes);
     }
     0
+}
+
+// CORRECT or IFCOPY, which pass over their bodies.
+fn passes_over(number: u16) -> bool
+    ensures { λ r. ⌜ (r ≡ true → OneOf (110 ∷ 240 ∷ []) number) ⌝ }
+{
+    if number == 110 {
+        return true;
+    }
+    number == 240
+}
+
+// Where a row goes on, and the steps that are left.
+pub struct Further {
+    pub at: usize,
+    pub left: usize,
+}
+
+// A row that has come to `at`, with `left` steps left, past the operator there, which ends at `next`, and its body, if it passes over one.
+fn past_held(
+    pre: &[u8],
+    body: &[u8],
+    early: &mut [u32],
+    notes: &mut [u32],
+    origin: u32,
+    number: u16,
+    next: usize,
+    at: usize,
+    left: usize,
+) -> Further
+    requires { ⌜ Short (now pre) (now body) × Noting (now pre) (now body) (now early) (now notes) × (OneOf (110 ∷ 240 ∷ []) number → (0 < left) × Ends (bytesOf (both (now pre) (now body)) origin) next) ⌝ }
+    ensures { λ u. ⌜ Goes (bytesOf (both (now (pre .entry)) (now (body .entry))) origin) number next at left u × Noting (now (pre .entry)) (now (body .entry)) (now (early .exit)) (now (notes .exit)) ⌝ }
+{
+    if passes_over(number) {
+        return Further {
+            at: span_end(pre, body, early, notes, origin, next),
+            left: left - 1,
+        };
+    }
+    Further { at, left }
 }
 
 // The body of an IF entered: of the running body, whose bytes are b, from `start` to `end`.
@@ -268,33 +252,14 @@ fn if_so(w: &mut [u8], r: Registers, b: &[u8], start: usize, end: usize) -> Regi
     }
 }
 
-// IF, CORRECT or IFCOPY.
-fn hold(w: &mut [u8], r: Registers, b: &[u8], number: u16, start: usize, end: usize) -> Registers
-    requires { ⌜ Busy (now w) r × (length (now b) ≤ 16777215) × (start ≤ end) × (end ≤ length (now b)) × OneOf (110 ∷ 239 ∷ 240 ∷ []) number ⌝ }
-    ensures { λ q. ⌜ Busy (now (w .exit)) q × ((code : Code) → now (b .entry) ≡ bytesOf code (origin (now (w .entry)) (r .depth)) → Tried (execute code (WithBody number start (end - start))) (now (w .entry)) r (now (w .exit)) q) ⌝ }
+// A step with IF, whose body's `{` stands at `brace` of b and which ends at `end`.
+fn pace_if(w: &mut [u8], r: Registers, b: &[u8], brace: usize, end: usize) -> Registers
+    requires { ⌜ Good (now w) r × (0 < r .depth) × (r .steps < 4294967295) × (length (now b) ≤ 16777215) × (brace + 4 ≤ end) × (end ≤ length (now b)) ⌝ }
+    ensures { λ q. ⌜ ((code : Code) → now (b .entry) ≡ bytesOf code (origin (now (w .entry)) (r .depth)) → Paced code (WithBody 239 (brace + 2) (end - 2 - (brace + 2))) (solid (now (b .entry)) end) (now (w .entry)) r (now (w .exit)) q) ⌝ }
 {
-    if number == 239 {
-        return if_so(w, r, b, start, end);
-    }
-    effects::done(r)
-}
-
-// A step with an operator that holds the body of b due at `next`, which ends at `end`.
-fn pace_holder(
-    w: &mut [u8],
-    r: Registers,
-    b: &[u8],
-    number: u16,
-    next: usize,
-    end: usize,
-) -> Registers
-    requires { ⌜ Good (now w) r × (0 < r .depth) × (r .steps < 4294967295) × (length (now b) ≤ 16777215) × OneOf (110 ∷ 239 ∷ 240 ∷ []) number × (bodyAt mostOpen (now b) next ≡ Past end) ⌝ }
-    ensures { λ q. ⌜ ((code : Code) → now (b .entry) ≡ bytesOf code (origin (now (w .entry)) (r .depth)) → Paced code (WithBody number (solid (now (b .entry)) next + 2) (end - 2 - (solid (now (b .entry)) next + 2))) (solid (now (b .entry)) end) (now (w .entry)) r (now (w .exit)) q) ⌝ }
-{
-    let start = nesting::bodies::past_comments(b, next) + 2;
     let past = nesting::bodies::past_comments(b, end);
     let s = contexts::bodies::begin(w, r, table::words::word(past));
-    let p = hold(w, s, b, number, start, end - 2);
+    let p = if_so(w, s, b, brace + 2, end - 2);
     if p.ok {
         return recovery::ends::settle(w, p);
     }
@@ -327,7 +292,7 @@ pub fn ride<'a>(
     notes: &mut [u32],
     most: usize,
 ) -> Registers
-    requires { ⌜ Good (now w) r × (0 < r .depth) × (r .skipping ≡ false) × (0 < most) × (r .steps + most ≤ 1000000) × Short (now pre) (now body) × Noting (now pre) (now body) (now early) (now notes) ⌝ }
+    requires { ⌜ Good (now w) r × (0 < r .depth) × (r .skipping ≡ false) × (0 < most) × (r .steps + most ≤ 1000000) × Short (now pre) (now body) × Noting (now pre) (now body) (now early) (now notes) × Legible (both (now pre) (now body)) (abs (now w) r) ⌝ }
     ensures { λ q. ⌜ Led (both (now (pre .entry)) (now (body .entry))) most (now (w .entry)) r (now (w .exit)) q × Noting (now (pre .entry)) (now (body .entry)) (now (early .exit)) (now (notes .exit)) ⌝ }
 {
     let s = seat_of(w, r.depth);
@@ -352,18 +317,36 @@ pub fn ride<'a>(
         z.ok = false;
         return z;
     }
-    let end = held_end(pre, body, early, notes, s.origin, t.number, t.next);
-    if end > 0 {
-        let mut z = pace_holder(w, q, b, t.number, t.next, end);
+    if t.number == 239 {
+        let brace = nesting::bodies::past_comments(b, t.next);
+        let end = span_end(pre, body, early, notes, s.origin, brace);
+        let mut z = pace_if(w, q, b, brace, end);
         z.ok = false;
         return z;
     }
-    if t.left == most {
+    let u = past_held(
+        pre,
+        body,
+        early,
+        notes,
+        s.origin,
+        t.number,
+        t.next,
+        t.at,
+        t.left,
+    );
+    if u.left == most {
         return q;
     }
-    let mut z = alight(w, q, b, t.at, s.end);
-    if t.left == 0 {
+    q.steps = r.steps + (most - u.left);
+    let mut z = alight(w, q, b, u.at, s.end);
+    if u.left == 0 {
         z.ok = false;
+        return z;
+    }
+    if u.left < t.left {
+        z.ok = false;
+        return z;
     }
     z
 }

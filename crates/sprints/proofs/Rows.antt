@@ -27,10 +27,11 @@ use Rattle.machine.specs.Skeleton.{roleOf, solid, bodyAt}
 use Rattle.machine.specs.Literal.{Code, bytesOf, nothingAt, holdingBy, holdingAt, operatorBy, foundBy, foundAt}
 use Rattle.machine.specs.Contexts.{settle}
 use Rattle.machine.specs.Step.{execute, step, run}
-use Rattle.machine.proofs.Comments.{NoComment, Comments, none-at, one-at, comments-are}
+use Rattle.machine.proofs.Comments.{NoComment, none-at, solid-is}
 use Rattle.nesting.proofs.BodyTurns.{stands-at, number-shown, operator-shown}
 use Rattle.literals.specs.declared.Due.{Due}
-use Rattle.literals.specs.Dues.{Is}
+use Rattle.literals.specs.Dues.{Stands, Is}
+use Rattle.literals.proofs.Standing.{solid-again, stands-reads}
 use Rattle.literals.proofs.Passing.{solid-inside}
 use Rattle.origins.proofs.ByOrigin.{next-inside}
 use Rattle.state.specs.declared.Registers.{Registers}
@@ -38,19 +39,14 @@ use Rattle.state.specs.Layout.{contextsOf, contextAt, contextIn, aside, abs, Bu
 use Rattle.state.proofs.Parts.{contexts-top, contexts-at}
 use Rattle.state.proofs.Ending.{not-on}
 use Rattle.sprints.specs.declared.Stride.{Stride}
-use Rattle.sprints.specs.Swift.{marked, raised, origin, ending, ahead, Flat, Strides, lifted, Rowed}
+use Rattle.machine.proofs.Literals.{First, first}
+use Rattle.passing.specs.Known.{Reads}
+use Rattle.sprints.specs.Swift.{Stood, Left, marked, raised, origin, ending, ahead, Flat, Strides, lifted, Rowed}
 use Rattle.sprints.proofs.Ahead.{ended-ahead, settle-ahead, step-ahead}
 use Rattle.sprints.proofs.Level.{stays-none}
 use Rattle.sprints.proofs.Swiftly.{run-last, none-run}
 
 -- ---- a place past comments
-
-comments-none : (s : List ℕ) (at q : ℕ) → Comments s at q → NoComment (tokenAt s q)
-comments-none s at q (none-at h) = h
-comments-none s at q (one-at {next = next} h c) = comments-none s next q c
-
-solid-again : (b : List ℕ) (n : ℕ) → solid b n ≡ solid b (solid b n)
-solid-again b n = stands-at b (solid b n) (comments-none b n (solid b n) (comments-are b n))
 
 end-stands : (b : List ℕ) → length b ≡ solid b (length b)
 end-stands b = stands-at b (length b) (rw (token-end b (length b) (omega arith)) tt)
@@ -107,6 +103,26 @@ ends-at w depth c h e = sym (ap (λ (l : List Context). running l .end) (context
 pub is-on : (b : Bool) → not b ≡ false → b ≡ true
 is-on true e = refl
 is-on false e = not-on (sym e)
+
+-- ---- bytes that have been judged
+
+module _ {b : List ℕ} {at end : ℕ} (h : Left b at end) where
+  left-here : NoComment (tokenAt b at) → First b at end
+  left-here c = first b at end (h .0) (rw (solid-is b at at (none-at c)) at (h .1))
+
+  pub left-stood : Stood b at
+  left-stood = (by-token (tokenAt b at) refl, λ c. left-here c .is-literal)
+    where
+      by-token : (t : Read) → tokenAt b at ≡ t → Reads t
+      by-token (read.Number value next) e = tt
+      by-token (read.Identifier len next) e = tt
+      by-token (read.String count next) e = tt
+      by-token (read.Operator n next) e = tt
+      by-token (read.Comment next) e = tt
+      by-token (read.Unread r p) e = rw e at (stands-reads _ (left-here (rw e tt) .is-literal))
+
+  pub left-on : (next : ℕ) → NoComment (tokenAt b at) → foundAt b at .next ≡ solid b next → next < end → Left b next end
+  left-on next c e l = (l, rw (← e) (left-here c .rest))
 
 -- ---- a literal
 

@@ -1,4 +1,11 @@
-use mathlib.Core.Path.{refl}
+use Prim.Native.Nat.{_≤_, _<_}
+use mathlib.Core.List.{[]}
+use lib.ListN.{length}
+use Rattle.origins.proofs.ByOrigin.{nothing-there}
+use Rattle.spans.proofs.SpanTurns.{end-fits}
+use Rattle.rides.proofs.Riding.{no-body}
+use mathlib.Core.Path.{_≡_, refl, sym, ap, _∙_}
+use native.Mathlib.Omega.{arith}
 use borrow.Author.Needs.{needs}
 use Rattle.rides.proofs.span_end.Statement.{statement}
 use Rattle.rides.proofs.span_end.Tie as tie
@@ -7,10 +14,10 @@ pub span-end-spec : {M : Type 1} → statement M
 span-end-spec =
     tie.close
     (tie.spec
-    (λ c κs. search needs)
+    (λ c κs. (c .before .before .before .before .before .before .pre .0 .pre-fits, c .before .before .before .before .before .before .pre .1 .in-pre, rw (c .before .if1 .taken) at (c .before .before .before .before .before .before .pre .2)))
     (λ c. search needs)
-    (λ c. (λ k. rw (c .before .before .before .before .if1 .taken) (c .before .before .noted-end .ensures .0 k), record { in-pre = c .before .before .noted-end .ensures .1; in-body = c .before .before .before .before .before .before .before .before .before .pre .1 .in-body }))
-    (λ c κs. search needs)
+    (λ c. (rw (c .before .before .before .before .if1 .taken) (c .before .before .span-of .ensures .0), record { in-pre = c .before .before .span-of .ensures .1; in-body = c .before .before .before .before .before .before .before .before .before .pre .1 .in-body }))
+    (λ c κs. (c .before .before .before .before .before .before .before .pre .0 .body-fits, c .before .before .before .before .before .before .before .pre .1 .in-body, rw (c .before .if2 .taken) at (c .before .before .before .before .before .before .before .pre .2)))
     (λ c. search needs)
-    (λ c. (λ k. rw (c .before .before .before .before .if2 .taken) (c .before .before .noted-end2 .ensures .0 k), record { in-pre = c .before .before .before .before .before .before .before .before .before .before .pre .1 .in-pre; in-body = c .before .before .noted-end2 .ensures .1 }))
-    (λ c. (λ k. absurd (k refl), c .before .before .before .before .before .before .pre .1)))
+    (λ c. (rw (c .before .before .before .before .if2 .taken) (c .before .before .span-of2 .ensures .0), record { in-pre = c .before .before .before .before .before .before .before .before .before .before .pre .1 .in-pre; in-body = c .before .before .span-of2 .ensures .1 }))
+    (λ c. absurd (no-body _ _ _ _ (c .before .if1 .left) (c .if2 .left) (c .before .before .before .before .before .before .pre .2))))

@@ -14,7 +14,7 @@ pub literal-spec : {M : Type 1} → statement M
 literal-spec =
     tie.close
     (tie.spec
-    (λ c κs. search needs)
+    (λ c κs. c .before .before .pre .5 .0)
     (λ c. search needs)
     (λ c κs. search needs)
     (λ c κs. search needs)
@@ -22,13 +22,13 @@ literal-spec =
     (λ c. search needs)
     (λ c κs. search needs)
     (λ c. search needs)
-    (λ c κs. (c .before .before .before .before .before .before .pre .0, c .before .before .before .before .before .before .pre .1, sequence-shown _ _ _ (c .before .enum-told .given .1) (c .before .before .before .form-at .ensures)))
+    (λ c κs. (c .before .before .before .before .before .before .pre .0, c .before .before .before .before .before .before .pre .1, sequence-shown _ _ _ (c .before .enum-told .given .1) (c .before .before .before .form .ensures), c .before .before .before .before .before .before .pre .5))
     (λ c. search needs)
     (λ c κs. search needs)
     (λ c. search needs)
-    (λ c. strides-of _ _ _ _ _ _ (λ h. found-number _ _ _ (c .before .before .before .before .before .before .before .before .before .form-at .ensures) _ _ _ _ (c .before .before .before .before .before .before .before .raw .given .1) (c .before .before .before .before .before .short-value .ensures) refl) refl (number-inside _ _ _ (c .before .before .before .before .before .before .before .before .before .form-at .ensures) _ _ (c .before .before .before .before .before .before .before .raw .given .1)) (number-none _ _ _ (c .before .before .before .before .before .before .before .before .before .form-at .ensures) _ _ (c .before .before .before .before .before .before .before .raw .given .1)) (λ k. absurd (k refl)) (λ code. flat-of code _ (figure-flat _ _) _ _ (c .height-of .ensures) (by-figure code _ _ refl (c .before .before .before .push-number .ensures))))
+    (λ c. strides-of _ _ _ _ _ _ (λ h. found-number _ _ _ (c .before .before .before .before .before .before .before .before .before .form .ensures) _ _ _ _ (c .before .before .before .before .before .before .before .raw .given .1) (c .before .before .before .before .before .short-value .ensures) refl) refl (number-inside _ _ _ (c .before .before .before .before .before .before .before .before .before .form .ensures) _ _ (c .before .before .before .before .before .before .before .raw .given .1)) (number-none _ _ _ (c .before .before .before .before .before .before .before .before .before .form .ensures) _ _ (c .before .before .before .before .before .before .before .raw .given .1)) (λ k. absurd (k refl)) (λ code. flat-of code _ (figure-flat _ _) _ _ (c .height-of .ensures) (by-figure code _ _ refl (c .before .before .before .push-number .ensures))))
     (λ c. search needs)
-    (λ c. strides-of _ _ _ _ _ _ (λ h. plain-found _ _ _ (c .before .before .before .before .before .before .before .form-at .ensures) _ _ _ (c .before .before .before .before .before .number .given .1) refl (c .before .before .operate .ensures [] .1 h)) refl (operator-ends _ _ _ _ _ (c .before .before .before .before .before .number .given .1) (c .before .before .before .before .before .before .before .form-at .ensures) .1) (operator-none _ _ _ (c .before .before .before .before .before .before .before .form-at .ensures) _ _ (c .before .before .before .before .before .number .given .1)) (λ _. operator-shown _ _ _ _ _ (c .before .before .before .before .before .number .given .1) (c .before .before .before .before .before .before .before .form-at .ensures)) (λ code. c .before .before .operate .ensures code .0))
+    (λ c. strides-of _ _ _ _ _ _ (λ h. plain-found _ _ _ (c .before .before .before .before .before .before .before .form .ensures) _ _ _ (c .before .before .before .before .before .number .given .1) refl (c .before .before .operate .ensures [] .1 h)) refl (operator-ends _ _ _ _ _ (c .before .before .before .before .before .number .given .1) (c .before .before .before .before .before .before .before .form .ensures) .1) (operator-none _ _ _ (c .before .before .before .before .before .before .before .form .ensures) _ _ (c .before .before .before .before .before .number .given .1)) (λ _. operator-shown _ _ _ _ _ (c .before .before .before .before .before .number .given .1) (c .before .before .before .before .before .before .before .form .ensures)) (λ code. c .before .before .operate .ensures code .0))
     (λ c. search needs)
     (λ c. search needs)
     (λ c. strides-none _ _ _ (c .undone .ensures)))

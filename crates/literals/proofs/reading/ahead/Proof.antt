@@ -1,8 +1,10 @@
--- `reading::ahead` meets its contract. Assumes nothing.
-use Rattle.nesting.proofs.BodyTurns.{sequence-shown, operator-ends}
-use Rattle.literals.proofs.Passing.{number-over, operator-found, cut-found, passes-as}
+use Rattle.nesting.proofs.BodyTurns.{operator-shown}
+use Rattle.literals.proofs.Passing.{number-over, sequence-over}
+use Rattle.passing.proofs.Knowing.{shown-sequence, shown-cut, ends-there}
+use Rattle.literals.proofs.Standing.{stands-reads, stands-solid, stands-ends, operator-passes}
+use mathlib.Core.Path.{_≡_, refl, sym, ap, _∙_}
+use native.Mathlib.Omega.{arith}
 use borrow.Author.Needs.{needs}
-use mathlib.Core.Path.{refl}
 use Rattle.literals.proofs.reading.ahead.Statement.{statement}
 use Rattle.literals.proofs.reading.ahead.Tie as tie
 
@@ -10,22 +12,16 @@ pub ahead-spec : {M : Type 1} → statement M
 ahead-spec =
     tie.close
     (tie.spec
-    (λ c κs. search needs)
+    (λ c κs. stands-reads _ (c .before .pre .1))
     (λ c. search needs)
     (λ c κs. search needs)
     (λ c. search needs)
-    (λ c κs. (c .before .before .before .before .before .pre, operator-ends _ _ _ _ _ (c .before .number .given .1) (c .before .before .before .form-at .ensures) .1))
+    (λ c κs. (c .before .before .before .before .before .pre .0, λ r. stands-ends _ _ _ (c .before .before .before .before .before .pre .1) (operator-shown _ _ _ _ _ (c .before .number .given .1) (c .before .before .before .form .ensures)) r))
+    (λ c. search needs)
+    (λ c κs. shown-sequence _ _ _ (c .before .before .form .ensures) (c .enum-told .given .1) .0)
     (λ c κs. search needs)
     (λ c. search needs)
-    (λ c κs. search needs)
-    (λ c κs. (c .before .before .before .before .before .before .pre, c .before .is-solid .ensures (c .if1 .taken), sequence-shown _ _ _ (c .before .before .enum-told .given .1) (c .before .before .before .before .form-at .ensures)))
-    (λ c. search needs)
-    (λ c κs. (c .before .before .before .before .before .before .pre, sequence-shown _ _ _ (c .before .before .enum-told .given .1) (c .before .before .before .before .form-at .ensures)))
-    (λ c κs. search needs)
-    (λ c. search needs)
-    (λ c κs. search needs)
-    (λ c κs. search needs)
-    (λ c. number-over _ _ _ (c .before .before .before .before .form-at .ensures) _ _ _ (c .before .before .next .given .1) (c .past-comments .ensures))
-    (λ c. passes-as (operator-found _ _ _ (c .before .before .before .before .before .form-at .ensures) _ _ (c .before .before .before .number .given .1)) (c .before .passed-operator .ensures) (c .told .ensures))
-    (λ c. passes-as refl (c .before .due-sequence .ensures) (c .told2 .ensures))
-    (λ c. passes-as (cut-found _ _ _ (c .before .before .before .before .form-at .ensures) (c .before .before .enum-told2 .given .1)) (c .before .nothing .ensures) (c .told3 .ensures)))
+    (λ c. number-over _ _ _ (c .before .before .before .before .form .ensures) _ _ _ (c .before .before .next .given .1) (c .past-comments .ensures))
+    (λ c. operator-passes _ _ _ (c .before .before .before .before .before .before .pre .1) (operator-shown _ _ _ _ _ (c .before .before .number .given .1) (c .before .before .before .before .form .ensures)) (c .past-operator .ensures) refl)
+    (λ c. let g = shown-sequence _ _ _ (c .before .before .before .before .form .ensures) (c .before .before .enum-told .given .1) in sequence-over _ _ g _ refl _ _ (stands-solid _ (c .before .before .before .before .before .before .pre .1)) (ends-there _ _ (g .1) (stands-reads _ (c .before .before .before .before .before .before .pre .1)) _ (c .before .extent .ensures)) (c .past-comments2 .ensures))
+    (λ c. absurd (shown-cut _ _ _ (c .before .before .form .ensures) (c .enum-told2 .given .1) (stands-reads _ (c .before .before .before .before .pre .1)))))

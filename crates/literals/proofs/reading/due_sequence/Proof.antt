@@ -1,5 +1,7 @@
--- `reading::due_sequence` meets its contract. Assumes nothing.
-use Rattle.literals.proofs.Finding.{name-inside, is-number, is-name, is-text, is-sequence, is-comment, is-unread}
+use Rattle.passing.proofs.Knowing.{text-there, name-there}
+use Rattle.literals.proofs.Standing.{stands-reads}
+use Rattle.literals.proofs.Finding.{name-inside, is-name, is-text}
+use mathlib.Core.Path.{_≡_, refl, sym, ap, _∙_}
 use native.Mathlib.Omega.{arith}
 use borrow.Author.Needs.{needs}
 use Rattle.literals.proofs.reading.due_sequence.Statement.{statement}
@@ -9,25 +11,16 @@ pub due-sequence-spec : {M : Type 1} → statement M
 due-sequence-spec =
     tie.close
     (tie.spec
-    (λ c κs. search needs)
-    (λ c. search needs)
-    (λ c κs. search needs)
-    (λ c. search needs)
-    (λ c κs. search needs)
-    (λ c κs. omega (arith, name-inside _ _ _ (c .before .before .before .before .read-token .ensures) _ _ (c .before .before .len .given .1)))
-    (λ c κs. search needs)
     (λ c. search needs)
     (λ c κs. search needs)
     (λ c κs. search needs)
-    (λ c. search needs)
     (λ c κs. search needs)
-    (λ c. search needs)
     (λ c κs. search needs)
-    (λ c. search needs)
+    (λ c. is-text _ _ _ refl _ _ _ _ (text-there _ _ (c .before .before .before .before .before .before .before .pre .1 .1) (stands-reads _ (c .before .before .before .before .before .before .before .pre .2)) _ (c .before .before .extent .ensures) (sym (c .before .before .before .before .low5 .ensures) ∙ c .before .before .before .if1 .taken)) (c .before .word .ensures) (c .found .ensures))
     (λ c κs. search needs)
-    (λ c. search (needs, is-number))
-    (λ c. search (needs, is-name))
-    (λ c. search (needs, is-text))
-    (λ c. is-sequence _ _ _ (c .before .before .before .read-token .ensures) _ _ _ (c .before .before .before .before .before .pre .1) (c .before .enum-told .given .1))
-    (λ c. search (needs, is-comment))
-    (λ c. search (needs, is-unread)))
+    (λ c κs. search needs)
+    (λ c κs. omega (arith, name-inside _ _ _ refl _ _ (name-there _ _ (c .before .before .before .before .before .before .before .pre .1 .1) (stands-reads _ (c .before .before .before .before .before .before .before .pre .2)) _ (c .before .extent2 .ensures) (sym (c .before .before .before .before .low5 .ensures) ∙ c .before .before .if2 .taken)), c .before .before .before .before .before .before .before .pre .0))
+    (λ c κs. search needs)
+    (λ c. is-name _ _ _ refl _ _ _ _ _ (name-there _ _ (c .before .before .before .before .before .before .before .before .before .pre .1 .1) (stands-reads _ (c .before .before .before .before .before .before .before .before .before .pre .2)) _ (c .before .before .before .extent2 .ensures) (sym (c .before .before .before .before .before .before .low5 .ensures) ∙ c .before .before .before .before .if2 .taken)) (c .before .before .word2 .ensures) (c .before .word3 .ensures) (c .found2 .ensures))
+    (λ c κs. search needs)
+    (λ c. search needs))
