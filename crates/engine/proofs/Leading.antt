@@ -1,4 +1,4 @@
--- Steps of a run. In order: a step; some steps, and a run of them. Assumes nothing.
+-- Steps of a run. In order: bodies that have been judged; a step; some steps, and a run of them. Assumes nothing.
 use Prim.Native.Nat.{ℕ, suc, _+_, _-_, _≤_, _<_}
 use native.Mathlib.Omega.{arith}
 use mathlib.Core.Path.{_≡_, sym, _∙_}
@@ -12,6 +12,8 @@ use Rattle.machine.specs.Literal.{Code, bytesOf}
 use Rattle.machine.specs.Contexts.{fault, settle}
 use Rattle.machine.specs.Engine.{place, does}
 use Rattle.machine.specs.Step.{run}
+use Rattle.machine.proofs.Legible.{Legible, legible-run, going-on, going-literal}
+use Rattle.literals.specs.Dues.{Stands}
 use Rattle.names.specs.Names.{both}
 use Rattle.state.specs.declared.Place.{Place}
 use Rattle.state.specs.declared.Registers.{Registers}
@@ -22,10 +24,21 @@ use Rattle.sprints.specs.Swift.{stepped, Executes, Ready, Attempted}
 use Rattle.rides.specs.Rides.{Led}
 use Rattle.engine.specs.Steps.{Stepped, Onward}
 use Rattle.origins.proofs.ByOrigin.{bytes-short}
-use Rattle.sprints.proofs.Swiftly.{run-next, run-both, good-as}
+use Rattle.sprints.proofs.Swiftly.{not-ended, run-next, run-both, good-as}
 
 pub bytes-fit : (pre body b : List ℕ) {at : ℕ} {w : List ℕ} {r : Registers} → Ready (both pre body) b at w r → Short pre body → length b ≤ 16777215
 bytes-fit pre body b {at} {w} {r} ready short = rw (ready .bytes) (bytes-short pre body (running (contextsOf (slots w) (r .depth)) .origin) short)
+
+-- ---- bodies that have been judged
+
+-- the literal that is due stands where the running body goes on
+pub stands-now : (w : List ℕ) (r : Registers) (pre body b : List ℕ) (c : Place) (at : ℕ) → Legible (both pre body) (abs w r) → 0 < r .depth
+    → (c .origin ≡ running (contextsOf (slots w) (r .depth)) .origin) × (c .start ≡ running (contextsOf (slots w) (r .depth)) .at) → b ≡ bytesOf (both pre body) (c .origin) → at ≡ c .start → Stands b at
+stands-now w r pre body b c at h runs here eb ea =
+    rw (eb, here .0, ea, here .1) (going-literal (going-on (both pre body) (abs w r) h (not-ended (slots w) (r .depth) runs)))
+
+pub legible-then : {s t : State} (code : Code) (n : ℕ) → Legible code s → run n code s ≡ t → Legible code t
+legible-then {s} {t} code n h e = rw (← e) (legible-run code n s h)
 
 -- ---- a step
 

@@ -1,12 +1,14 @@
-// A literal executed, a step, and a body under an allowance.
+// A literal executed, a step, and a body under an allowance. The bodies have been judged, and nothing in them is judged again (DECISIONS, D77).
 ghost use mathlib.Core.Path.{_≡_};
 ghost use mathlib.Core.Bool.{true, false};
 ghost use Prim.Native.Nat.{_+_, _<_, _≤_};
 ghost use Rattle.machine.specs.declared.Literal.the-variants.{Plain};
 ghost use Rattle.machine.specs.Literal.{Code, bytesOf};
 ghost use Rattle.machine.specs.Step.{execute, run};
+ghost use Rattle.machine.proofs.Legible.{Legible};
 ghost use Rattle.names.specs.Names.{both};
 ghost use Rattle.state.specs.Layout.{abs, Good, Busy, Tried};
+ghost use Rattle.literals.specs.Dues.{Stands};
 ghost use Rattle.origins.specs.Bodies.{Short, Noting};
 ghost use Rattle.engine.specs.Steps.{SizedLiteral, Stepped, Ran, Onward};
 ghost use Rattle.sprints.specs.Swift.{Executes, Ready, Attempted};
@@ -104,7 +106,7 @@ fn literal<'a>(
     o: u32,
     at: usize,
 ) -> Registers
-    requires { ⌜ Ready (both (now pre) (now body)) (bytesOf (both (now pre) (now body)) o) at (now w) r × Short (now pre) (now body) × Noting (now pre) (now body) (now early) (now notes) ⌝ }
+    requires { ⌜ Ready (both (now pre) (now body)) (bytesOf (both (now pre) (now body)) o) at (now w) r × Short (now pre) (now body) × Noting (now pre) (now body) (now early) (now notes) × Stands (bytesOf (both (now pre) (now body)) o) at ⌝ }
     ensures { λ q. ⌜ Attempted (both (now (pre .entry)) (now (body .entry))) (now (w .entry)) r (now (w .exit)) q × Noting (now (pre .entry)) (now (body .entry)) (now (early .exit)) (now (notes .exit)) ⌝ }
 {
     let d = origins::due_of(pre, body, early, notes, o, at);
@@ -122,7 +124,7 @@ fn pace_noting<'a>(
     early: &mut [u32],
     notes: &mut [u32],
 ) -> Registers
-    requires { ⌜ Good (now w) r × (0 < r .depth) × Executes (both (now pre) (now body)) (abs (now w) r) × (r .steps < 4294967295) × Short (now pre) (now body) × Noting (now pre) (now body) (now early) (now notes) ⌝ }
+    requires { ⌜ Good (now w) r × (0 < r .depth) × Executes (both (now pre) (now body)) (abs (now w) r) × (r .steps < 4294967295) × Short (now pre) (now body) × Noting (now pre) (now body) (now early) (now notes) × Legible (both (now pre) (now body)) (abs (now w) r) ⌝ }
     ensures { λ q. ⌜ Stepped (now (pre .entry)) (now (body .entry)) (now (w .entry)) r (now (w .exit)) q × Noting (now (pre .entry)) (now (body .entry)) (now (early .exit)) (now (notes .exit)) ⌝ }
 {
     let c = contexts::bodies::running(w, r.depth);
@@ -154,7 +156,7 @@ fn pace<'a>(
     early: &mut [u32],
     notes: &mut [u32],
 ) -> Registers
-    requires { ⌜ Good (now w) r × (0 < r .depth) × Executes (both (now pre) (now body)) (abs (now w) r) × (r .steps < 4294967295) × Short (now pre) (now body) × Noting (now pre) (now body) (now early) (now notes) ⌝ }
+    requires { ⌜ Good (now w) r × (0 < r .depth) × Executes (both (now pre) (now body)) (abs (now w) r) × (r .steps < 4294967295) × Short (now pre) (now body) × Noting (now pre) (now body) (now early) (now notes) × Legible (both (now pre) (now body)) (abs (now w) r) ⌝ }
     ensures { λ q. ⌜ Stepped (now (pre .entry)) (now (body .entry)) (now (w .entry)) r (now (w .exit)) q × Noting (now (pre .entry)) (now (body .entry)) (now (early .exit)) (now (notes .exit)) ⌝ }
 {
     let c = contexts::bodies::running(w, r.depth);
@@ -192,7 +194,7 @@ fn unmark(w: &mut [u8], r: Registers, next: usize) -> Registers
 
 // Literals of the running body passed over, and UNMARK0 if it comes.
 fn pass<'a>(w: &mut [u8], start: Registers, pre: &'a [u8], body: &'a [u8], most: usize) -> Registers
-    requires { ⌜ Good (now w) start × (0 < start .depth) × (start .skipping ≡ true) × (0 < most) × (start .steps + most ≤ 1000000) × Short (now pre) (now body) ⌝ }
+    requires { ⌜ Good (now w) start × (0 < start .depth) × (start .skipping ≡ true) × (0 < most) × (start .steps + most ≤ 1000000) × Short (now pre) (now body) × Legible (both (now pre) (now body)) (abs (now w) start) ⌝ }
     ensures { λ q. ⌜ Led (both (now (pre .entry)) (now (body .entry))) most (now (w .entry)) start (now (w .exit)) q ⌝ }
 {
     let depth = start.depth;
@@ -230,7 +232,7 @@ fn lead<'a>(
     notes: &mut [u32],
     most: usize,
 ) -> Registers
-    requires { ⌜ Good (now w) r × (0 < r .depth) × (0 < most) × (r .steps + most ≤ 1000000) × Short (now pre) (now body) × Noting (now pre) (now body) (now early) (now notes) ⌝ }
+    requires { ⌜ Good (now w) r × (0 < r .depth) × (0 < most) × (r .steps + most ≤ 1000000) × Short (now pre) (now body) × Noting (now pre) (now body) (now early) (now notes) × Legible (both (now pre) (now body)) (abs (now w) r) ⌝ }
     ensures { λ q. ⌜ Led (both (now (pre .entry)) (now (body .entry))) most (now (w .entry)) r (now (w .exit)) q × Noting (now (pre .entry)) (now (body .entry)) (now (early .exit)) (now (notes .exit)) ⌝ }
 {
     if r.skipping {
@@ -249,7 +251,7 @@ fn onward<'a>(
     notes: &mut [u32],
     most: usize,
 ) -> Registers
-    requires { ⌜ Good (now w) r × (0 < r .depth) × (0 < most) × (r .steps + most ≤ 1000000) × Short (now pre) (now body) × Noting (now pre) (now body) (now early) (now notes) ⌝ }
+    requires { ⌜ Good (now w) r × (0 < r .depth) × (0 < most) × (r .steps + most ≤ 1000000) × Short (now pre) (now body) × Noting (now pre) (now body) (now early) (now notes) × Legible (both (now pre) (now body)) (abs (now w) r) ⌝ }
     ensures { λ q. ⌜ Onward (both (now (pre .entry)) (now (body .entry))) most (now (w .entry)) r (now (w .exit)) q × Noting (now (pre .entry)) (now (body .entry)) (now (early .exit)) (now (notes .exit)) ⌝ }
 {
     let q = lead(w, r, pre, body, early, notes, most);
@@ -269,7 +271,7 @@ fn run_noting<'a>(
     notes: &mut [u32],
     allowance: usize,
 ) -> Registers
-    requires { ⌜ Good (now w) start × (start .steps + allowance ≤ 1000000) × Short (now pre) (now body) × Noting (now pre) (now body) (now early) (now notes) ⌝ }
+    requires { ⌜ Good (now w) start × (start .steps + allowance ≤ 1000000) × Short (now pre) (now body) × Noting (now pre) (now body) (now early) (now notes) × Legible (both (now pre) (now body)) (abs (now w) start) ⌝ }
     ensures { λ q. ⌜ Ran (now (pre .entry)) (now (body .entry)) allowance (now (w .entry)) start (now (w .exit)) q ⌝ }
 {
     let mut r = start;
@@ -293,7 +295,7 @@ pub fn run<'a>(
     body: &'a [u8],
     allowance: usize,
 ) -> Registers
-    requires { ⌜ Good (now w) start × (start .steps + allowance ≤ 1000000) × Short (now pre) (now body) ⌝ }
+    requires { ⌜ Good (now w) start × (start .steps + allowance ≤ 1000000) × Short (now pre) (now body) × Legible (both (now pre) (now body)) (abs (now w) start) ⌝ }
     ensures { λ q. ⌜ Ran (now (pre .entry)) (now (body .entry)) allowance (now (w .entry)) start (now (w .exit)) q ⌝ }
 {
     // all zero, they note nothing yet

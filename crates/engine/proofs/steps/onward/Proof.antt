@@ -1,4 +1,4 @@
-use Rattle.engine.proofs.Leading.{onward-paced, onward-led}
+use Rattle.engine.proofs.Leading.{legible-then, onward-paced, onward-led}
 use native.Mathlib.Omega.{arith}
 use borrow.Author.Needs.{needs}
 use Rattle.engine.proofs.steps.onward.Statement.{statement}
@@ -9,7 +9,7 @@ onward-spec =
     tie.close
     (tie.spec
     (λ c κs. search needs)
-    (λ c κs. (c .before .before .before .before .before .before .before .before .before .before .lead .ensures .0 .good, c .before .before .before .before .before .before .before .before .before .before .lead .ensures .0 .runs (c .before .before .before .if1 .taken), c .before .before .before .before .before .before .before .before .before .before .lead .ensures .0 .executes (c .before .before .before .if1 .taken), omega (arith, c .before .before .before .before .before .before .before .before .before .before .lead .ensures .0 .within, c .before .before .before .before .before .before .before .before .before .before .before .before .before .before .before .before .before .before .before .pre .3), c .before .before .before .before .before .before .before .before .before .before .before .before .before .before .before .before .before .before .before .pre .4, c .before .before .before .before .before .before .before .before .before .before .lead .ensures .1))
+    (λ c κs. (c .before .before .before .before .before .before .before .before .before .before .lead .ensures .0 .good, c .before .before .before .before .before .before .before .before .before .before .lead .ensures .0 .runs (c .before .before .before .if1 .taken), c .before .before .before .before .before .before .before .before .before .before .lead .ensures .0 .executes (c .before .before .before .if1 .taken), omega (arith, c .before .before .before .before .before .before .before .before .before .before .lead .ensures .0 .within, c .before .before .before .before .before .before .before .before .before .before .before .before .before .before .before .before .before .before .before .pre .3), c .before .before .before .before .before .before .before .before .before .before .before .before .before .before .before .before .before .before .before .pre .4, c .before .before .before .before .before .before .before .before .before .before .lead .ensures .1, legible-then _ _ (c .before .before .before .before .before .before .before .before .before .before .before .before .before .before .before .before .before .before .before .pre .6) (c .before .before .before .before .before .before .before .before .before .before .lead .ensures .0 .does)))
     (λ c. search needs)
     (λ c. search needs)
     (λ c. search needs)

@@ -2,7 +2,7 @@
 use borrow.Author.Needs.{needs}
 use mathlib.Core.Path.{refl}
 use native.Mathlib.Omega.{arith}
-use Rattle.engine.proofs.Leading.{ready-now, pace-settles, pace-faults}
+use Rattle.engine.proofs.Leading.{stands-now, ready-now, pace-settles, pace-faults}
 use Rattle.engine.proofs.steps.pace_noting.Statement.{statement}
 use Rattle.engine.proofs.steps.pace_noting.Tie as tie
 
@@ -12,7 +12,7 @@ pace-noting-spec =
     (tie.spec
     (λ c κs. search needs)
     (λ c κs. search needs)
-    (λ c κs. (ready-now _ _ _ (c .before .before .before .before .running .result) _ (c .before .before .before .before .before .before .before .before .before .before .before .pre .0) (c .before .before .before .before .before .before .before .before .before .before .before .pre .1) (c .before .before .before .before .before .before .before .before .before .before .before .pre .2) (c .before .before .before .before .before .before .before .before .before .before .before .pre .3) (c .before .before .before .before .running .ensures) refl (c .size .ensures .0), c .before .before .before .before .before .before .before .before .before .before .before .pre .4, c .before .before .before .before .before .before .before .before .before .before .before .pre .5))
+    (λ c κs. (ready-now _ _ _ (c .before .before .before .before .running .result) _ (c .before .before .before .before .before .before .before .before .before .before .before .pre .0) (c .before .before .before .before .before .before .before .before .before .before .before .pre .1) (c .before .before .before .before .before .before .before .before .before .before .before .pre .2) (c .before .before .before .before .before .before .before .before .before .before .before .pre .3) (c .before .before .before .before .running .ensures) refl (c .size .ensures .0), c .before .before .before .before .before .before .before .before .before .before .before .pre .4, c .before .before .before .before .before .before .before .before .before .before .before .pre .5, stands-now _ (c .before .before .before .before .before .before .before .before .before .before .before .args .r) _ _ _ (c .before .before .before .before .running .result) _ (c .before .before .before .before .before .before .before .before .before .before .before .pre .6) (c .before .before .before .before .before .before .before .before .before .before .before .pre .1) (c .before .before .before .before .running .ensures) refl (c .size .ensures .0)))
     (λ c κs. search needs)
     (λ c. search needs)
     (λ c. search needs)

@@ -1,4 +1,4 @@
-use Rattle.engine.proofs.Leading.{quiet, after-inv, after-led, led-all}
+use Rattle.engine.proofs.Leading.{stands-now, legible-then, quiet, after-inv, after-led, led-all}
 use Rattle.sprints.proofs.Swiftly.{none-run}
 use Rattle.engine.proofs.Stepping.{here-at, unmark-step, skip-step, still-skips, done-same, stepped-same}
 use Rattle.origins.proofs.ByOrigin.{bytes-short, ahead-fits}
@@ -30,7 +30,7 @@ pass-spec =
     (λ c κs. (c .before .before .before .before .before .before .pre .1, omega (arith, c .before .before .before .before .before .before .pre .0 .depth-fits), omega (arith, c .before .before .loop .inv .0 .room)))
     (λ c κs. search needs)
     (λ c κs. search needs)
-    (λ c κs. (rw (c .before .bytes-of .ensures) (bytes-short _ _ (c .before .before .running .result .origin) (c .before .before .before .before .before .before .before .before .before .pre .5))))
+    (λ c κs. ((rw (c .before .bytes-of .ensures) (bytes-short _ _ (c .before .before .running .result .origin) (c .before .before .before .before .before .before .before .before .before .pre .5))), stands-now _ (c .before .before .before .before .before .loop .r) _ _ _ (c .before .before .running .result) _ (legible-then _ _ (c .before .before .before .before .before .before .before .before .before .pre .6) (c .before .before .before .before .before .loop .inv .8)) (rw (c .before .before .before .before .before .loop .inv .1) (c .before .before .before .before .before .before .before .before .before .pre .1)) (here-at _ (c .before .before .before .before .before .loop .r) _ _ (c .before .before .before .before .before .loop .inv .1) (c .before .before .running .ensures)) (c .before .bytes-of .ensures) (c .size .ensures .0)))
     (λ c κs. (c .before .before .before .before .before .before .before .before .loop .inv .0, (rw (c .before .before .before .before .before .before .before .before .loop .inv .1) (c .before .before .before .before .before .before .before .before .before .before .before .before .pre .1)), omega (arith, c .before .before .before .before .before .before .before .before .loop .inv .5, c .before .before .before .before .before .before .before .before .before .before .before .before .pre .4, c .before .before .before .before .before .before .before .before .loop .inv .6), ahead-fits _ _ _ (rw (c .before .before .before .before .bytes-of .ensures) (bytes-short _ _ (c .before .before .before .before .before .running .result .origin) (c .before .before .before .before .before .before .before .before .before .before .before .before .pre .5))) (c .before .before .ahead .ensures)))
     (λ c κs. search needs)
     (λ c. omega (arith, c .before .before .w .given, c .before .before .before .before .before .before .before .before .before .before .before .before .loop .inv .4))

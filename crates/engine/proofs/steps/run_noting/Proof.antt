@@ -1,6 +1,6 @@
 -- `steps::run_noting` meets its contract. Assumes nothing.
 use borrow.Author.Needs.{needs}
-use mathlib.Core.Path.{_≡_, refl, _∙_}
+use mathlib.Core.Path.{_≡_, refl, sym, _∙_}
 use Prim.Native.Nat.{_+_, _≤_}
 use native.Mathlib.Omega.{arith}
 use lib.ListN.{length}
@@ -9,20 +9,21 @@ use Rattle.names.specs.Names.{both}
 use Rattle.state.specs.Layout.{abs, aside, Good}
 use Rattle.origins.specs.Bodies.{Noting}
 use Rattle.engine.proofs.Stepping.{run-out, run-ended}
-use Rattle.engine.proofs.Leading.{run-onward}
+use Rattle.machine.proofs.Legible.{Legible}
+use Rattle.engine.proofs.Leading.{legible-then, run-onward}
 use Rattle.engine.proofs.steps.run_noting.Statement.{statement}
 use Rattle.engine.proofs.steps.run_noting.Tie as tie
 
 abbrev Inv-loop : tie.InvT-loop
 Inv-loop w₀ pre body early₀ notes₀ allowance r₀ left₀ w early notes r left =
-    Good w r × (length w ≡ length w₀) × (r .steps + left ≤ r₀ .steps + allowance) × (left ≤ allowance) × (aside w ≡ aside w₀) × (run left (both pre body) (abs w r) ≡ run allowance (both pre body) (abs w₀ r₀)) × Noting pre body early notes × (length early ≡ length early₀) × (length notes ≡ length notes₀)
+    Good w r × (length w ≡ length w₀) × (r .steps + left ≤ r₀ .steps + allowance) × (left ≤ allowance) × (aside w ≡ aside w₀) × (run left (both pre body) (abs w r) ≡ run allowance (both pre body) (abs w₀ r₀)) × Noting pre body early notes × (length early ≡ length early₀) × (length notes ≡ length notes₀) × Legible (both pre body) (abs w r)
 
 abbrev μ-loop : tie.MeasureT-loop
 μ-loop w₀ pre body early₀ notes₀ allowance r₀ left₀ w early notes r left = left
 
 -- src/steps.rt:308:5
 loop-holds : tie.Need-loop-holds Inv-loop μ-loop
-loop-holds c = (search needs, refl, omega arith, omega arith, refl, refl, c .before .before .before .before .before .pre .3, refl, refl)
+loop-holds c = (search needs, refl, omega arith, omega arith, refl, refl, c .before .before .before .before .before .pre .3, refl, refl, c .before .before .before .before .before .pre .4)
 
 -- src/steps.rt:310:13
 same-length : tie.Need-same-length Inv-loop μ-loop
@@ -42,7 +43,7 @@ returns c = record { good = c .before .before .before .loop .inv .0; does = run-
 
 -- src/steps.rt:312:13
 onward-requires : tie.Need-onward-requires Inv-loop μ-loop
-onward-requires c κs = (c .before .before .before .before .before .before .loop .inv .0, omega (arith, c .before .before .before .if1 .left), c .before .before .before .before .before .loop-test .taken, omega (arith, c .before .before .before .before .before .before .loop .inv .2, c .before .before .before .before .before .before .before .before .before .before .before .before .pre .1), c .before .before .before .before .before .before .before .before .before .before .before .before .pre .2, c .before .before .before .before .before .before .loop .inv .6)
+onward-requires c κs = (c .before .before .before .before .before .before .loop .inv .0, omega (arith, c .before .before .before .if1 .left), c .before .before .before .before .before .loop-test .taken, omega (arith, c .before .before .before .before .before .before .loop .inv .2, c .before .before .before .before .before .before .before .before .before .before .before .before .pre .1), c .before .before .before .before .before .before .before .before .before .before .before .before .pre .2, c .before .before .before .before .before .before .loop .inv .6, c .before .before .before .before .before .before .loop .inv .9)
 
 -- src/steps.rt:313:17
 sub-left : tie.Need-sub-left Inv-loop μ-loop
@@ -62,7 +63,7 @@ loop-less c = omega (arith, c .before .before .before .before .before .before .b
 
 -- src/steps.rt:308:5
 loop-again : tie.Need-loop-again Inv-loop μ-loop
-loop-again c = rw (c .afresh .ensures) (c .before .before .before .before .before .before .before .before .before .onward .ensures .0 .good, omega (arith, c .before .before .before .before .before .before .before .before .w .given, c .before .before .before .before .before .before .before .before .before .before .before .before .before .before .before .before .loop .inv .1), omega (arith, c .before .before .before .before .before .before .before .before .before .onward .ensures .0 .some, c .before .before .before .before .before .before .before .before .before .onward .ensures .0 .within, c .before .before .before .before .before .before .before .before .before .before .before .before .before .before .before .before .loop .inv .2), omega (arith, c .before .before .before .before .before .before .before .before .before .before .before .before .before .before .before .before .loop .inv .3), c .before .before .before .before .before .before .before .before .before .onward .ensures .0 .keeps ∙ c .before .before .before .before .before .before .before .before .before .before .before .before .before .before .before .before .loop .inv .4, run-onward _ (c .before .before .before .before .before .before .before .before .before .before .before .before .before .before .before .before .loop .inv .5) (c .before .before .before .before .before .before .before .before .before .onward .ensures .0), c .before .before .before .before .before .before .before .before .before .onward .ensures .1, omega (arith, c .before .before .before .before .before .before .early .given, c .before .before .before .before .before .before .before .before .before .before .before .before .before .before .before .before .loop .inv .7), omega (arith, c .before .before .before .before .notes .given, c .before .before .before .before .before .before .before .before .before .before .before .before .before .before .before .before .loop .inv .8))
+loop-again c = rw (c .afresh .ensures) (c .before .before .before .before .before .before .before .before .before .onward .ensures .0 .good, omega (arith, c .before .before .before .before .before .before .before .before .w .given, c .before .before .before .before .before .before .before .before .before .before .before .before .before .before .before .before .loop .inv .1), omega (arith, c .before .before .before .before .before .before .before .before .before .onward .ensures .0 .some, c .before .before .before .before .before .before .before .before .before .onward .ensures .0 .within, c .before .before .before .before .before .before .before .before .before .before .before .before .before .before .before .before .loop .inv .2), omega (arith, c .before .before .before .before .before .before .before .before .before .before .before .before .before .before .before .before .loop .inv .3), c .before .before .before .before .before .before .before .before .before .onward .ensures .0 .keeps ∙ c .before .before .before .before .before .before .before .before .before .before .before .before .before .before .before .before .loop .inv .4, run-onward _ (c .before .before .before .before .before .before .before .before .before .before .before .before .before .before .before .before .loop .inv .5) (c .before .before .before .before .before .before .before .before .before .onward .ensures .0), c .before .before .before .before .before .before .before .before .before .onward .ensures .1, omega (arith, c .before .before .before .before .before .before .early .given, c .before .before .before .before .before .before .before .before .before .before .before .before .before .before .before .before .loop .inv .7), omega (arith, c .before .before .before .before .notes .given, c .before .before .before .before .before .before .before .before .before .before .before .before .before .before .before .before .loop .inv .8), legible-then _ _ (c .before .before .before .before .before .before .before .before .before .before .before .before .before .before .before .before .loop .inv .9) (sym (c .before .before .before .before .before .before .before .before .before .onward .ensures .0 .does)))
 
 -- src/steps.rt:294:1
 same-length-4 : tie.Need-same-length-4 Inv-loop μ-loop
