@@ -20,6 +20,8 @@ use Rattle.machine.specs.Skeleton.{Skeleton, sound, refused, skeletonOf}
 use Rattle.machine.specs.Page.{bodiesOf}
 use Rattle.machine.specs.Promise.{Verdict, halted, onSound, allowed, admitted, pagesIn}
 use Rattle.machine.proofs.Comments.{never}
+use Rattle.machine.proofs.Readable.{bodies-readable}
+use Rattle.machine.proofs.Literals.{all-whole}
 use Rattle.skeleton.specs.Spans.{Surveyed}
 use Rattle.skeleton.proofs.PageTurns.{length-bodies}
 use Rattle.admission.specs.Judged.{Admitted}
@@ -94,6 +96,7 @@ module _ (s : List ℕ) (allowance : ℤ) (enough : Bool) (t : List ℕ) where
         bodies = bodiesOf s spans;
         placed = d;
         many = let z : length spans - 1 ≡ n = done-one (sym (v .answer) ∙ g) in omega (arith, z, d .some, length-bodies s spans);
+        whole = all-whole s spans (bodies-readable s spans e);
         verdict = λ rest. judged rest ∙ ap (λ (x : Skeleton). onSound s x rest) e;
       };
     }

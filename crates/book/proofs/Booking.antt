@@ -64,7 +64,7 @@ stays e f d g = rw (e, f, g) at d
 
 module _ {s t : List ℕ} {z : ℤ} {b : Bool} {last : ℕ} (g : Goes s z b t last) where
   pub laid : 1026 ≤ length t → Holds s t last
-  laid l = record { wide = l; bodies = g .bodies; placed = g .placed; there = omega (arith, g .many) }
+  laid l = record { wide = l; bodies = g .bodies; placed = g .placed; there = omega (arith, g .many); whole = g .whole }
 
   pub few-steps : {x : ℤ} {a : ℕ} → x ≡ z → a ≡ natAbs x → a ≤ mostSteps
   few-steps e f = rw (f, e) (steps-fit z (g .steps) .1)

@@ -68,7 +68,7 @@ module _ (s : List ℕ) (z page : ℤ) (scratch rows sections : List ℕ) where
         }
 
 pub page-held : {s t : List ℕ} {z : ℤ} {b : Bool} {last n : ℕ} (page : ℤ) → 1026 ≤ length t → Goes s z b t last → leZ (pos 0) page && leZ page (pos last) ≡ true → n ≡ natAbs page → Holds s t n
-page-held {last = last} {n = n} page l g e f = record { wide = l; bodies = g .bodies; placed = g .placed; there = page-below page last (length (g .bodies)) n (g .many) f e }
+page-held {last = last} {n = n} page l g e f = record { wide = l; bodies = g .bodies; placed = g .placed; there = page-below page last (length (g .bodies)) n (g .many) f e; whole = g .whole }
 
 pub page-counts : {x z : ℤ} (last : ℕ) → x ≡ z → leZ (pos 0) z && leZ z (pos last) ≡ true → leZ (pos 0) x ≡ true
 page-counts {z = z} last e f = rw e (both (leZ (pos 0) z) (leZ z (pos last)) f .0)

@@ -4,7 +4,7 @@ ghost use mathlib.Core.Bool.{true, false};
 ghost use Prim.Native.Nat.{_+_, _<_, _≤_};
 ghost use Rattle.machine.specs.declared.Literal.the-variants.{Plain};
 ghost use Rattle.machine.specs.Literal.{Code, bytesOf};
-ghost use Rattle.machine.specs.Step.{execute, run};
+ghost use Rattle.machine.specs.Step.{execute};
 ghost use Rattle.machine.proofs.Legible.{Legible};
 ghost use Rattle.names.specs.Names.{both};
 ghost use Rattle.state.specs.Layout.{abs, Good, Busy, Tried};

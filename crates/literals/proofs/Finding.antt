@@ -18,7 +18,7 @@ use Rattle.machine.proofs.Role.{the-type}
 use Rattle.machine.specs.declared.Role.{Role}
 use Rattle.machine.specs.declared.Role.the-variants as role
 use Rattle.machine.specs.declared.Went.{Went}
-use Rattle.machine.specs.declared.Went.the-variants.{Past, Stop}
+use Rattle.machine.specs.declared.Went.the-variants.{Past}
 use Rattle.machine.specs.declared.Literal.the-variants.{Figure, Name, Text, Plain, WithBody}
 use Rattle.machine.specs.Limits.{mostOpen}
 use Rattle.machine.specs.Skeleton.{roleOf, solid, bodyAt}
@@ -43,10 +43,6 @@ module _ (b : List ℕ) (n next : ℕ) (w : Went) (d : Due) (e : w ≡ bodyAt mo
   pub holding-found : (end s start len : ℕ) → w ≡ Past end → s ≡ solid b next → start ≡ s + 2 → len ≡ end - 2 - (s + 2) → Is (found b (WithBody n start len) end) d → Is (holdingAt b n next) d
   unfolding holdingAt holdingBy
   holding-found end s start len f g h i k = rw (← e, f, ← g, ← i, ← h) k
-
-  pub holding-none : (r : Refusal) (p : ℕ) → w ≡ Stop r p → Is (nothingAt b) d → Is (holdingAt b n next) d
-  unfolding holdingAt holdingBy
-  holding-none r p f k = rw (← e, f) k
 
 -- ---- an operator, by its role
 

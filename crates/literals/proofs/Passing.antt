@@ -1,18 +1,14 @@
 -- What skipping asks of a literal, told by the token's form. Assumes nothing.
 use Prim.Native.Nat.{ℕ, _<_, _≤_}
-use mathlib.Core.Path.{_≡_, refl, sym, ap, _∙_}
+use mathlib.Core.Path.{_≡_, refl, sym, _∙_}
 use mathlib.Core.Bool.{false}
 use mathlib.Core.Logic.{_⊎_, inl, inr, ⊎-elim}
-use mathlib.Core.List.{List, [], _∷_}
-use types.Run.{OneOf}
-use denote.Enum.Declared.{tagOf}
+use mathlib.Core.List.{List}
 use native.Mathlib.Omega.{arith}
-use lib.Dec.{eqb}
 use lib.ListN.{length, getD}
 use lib.IntN.{pos, _-ℤ_}
 use Rattle.numbers.specs.declared.Number as num
 use Rattle.tokens.specs.Format.{bias}
-use Rattle.tokens.specs.declared.Refusal.{Refusal}
 use Rattle.tokens.specs.declared.Read.{Read}
 use Rattle.tokens.specs.declared.Read.the-variants as read
 use Rattle.tokens.specs.declared.Form.{Form}
@@ -23,16 +19,13 @@ use Rattle.tokens.specs.Token.{tokenAt}
 use Rattle.tokens.specs.Passing.{Shows, passOf}
 use Rattle.machine.specs.declared.Role.{Role}
 use Rattle.machine.specs.declared.Role.the-variants as role
-use Rattle.machine.specs.declared.Literal.{Literal}
-use Rattle.machine.specs.declared.Literal.the-variants.{Figure, Name, Text, Plain, WithBody}
+use Rattle.machine.specs.declared.Literal.the-variants.{Figure, Plain}
 use Rattle.machine.specs.Skeleton.{roleOf, solid}
 use Rattle.machine.specs.Literal.{Found, found, nothingAt, operatorBy, foundBy, foundAt}
 use Rattle.machine.specs.Step.{isUnmark0}
 use Rattle.machine.proofs.Comments.{NoComment, never, Comments, none-at, one-at, comments-are}
 use Rattle.machine.proofs.Inside.{token-inside}
-use Rattle.machine.proofs.Literal.{the-type}
 use Rattle.nesting.proofs.BodyTurns.{NoOperator, number-shown, operator-shown, cut-shown, operator-ends, no-operator}
-use Rattle.literals.specs.declared.Ahead.{Ahead}
 use Rattle.literals.specs.declared.Due.{Due}
 use Rattle.literals.specs.Dues.{Is, Passes, Tells}
 
@@ -48,32 +41,10 @@ comments-end s at q (one-at {next = next} h c) =
 pub solid-inside : (s : List ℕ) (at : ℕ) → at ≤ length s → solid s at ≤ length s
 solid-inside s at h = ⊎-elim (λ e. omega arith) (λ k. k) (comments-end s at (solid s at) (comments-are s at))
 
--- ---- UNMARK0
-
-pub unmarks-plain : (x : Literal) (n : ℕ) → x ≡ Plain n → eqb n 192 ≡ isUnmark0 x
-unfolding isUnmark0
-unmarks-plain x n e = rw e
-
--- the tags of the other literals
-pub unmarks-other : (x : Literal) → OneOf (0 ∷ 1 ∷ 2 ∷ 4 ∷ []) (tagOf the-type x) → false ≡ isUnmark0 x
-unfolding isUnmark0
-unmarks-other (Figure a) h = refl
-unmarks-other (Name s l) h = refl
-unmarks-other (Text s) h = refl
-unmarks-other (Plain n) (inl e) = absurd (omega arith)
-unmarks-other (Plain n) (inr (inl e)) = absurd (omega arith)
-unmarks-other (Plain n) (inr (inr (inl e))) = absurd (omega arith)
-unmarks-other (Plain n) (inr (inr (inr e))) = absurd (omega arith)
-unmarks-other (WithBody n s l) h = refl
-
 -- ---- the literal there
 
 pub is-as : {f g : Found} {d : Due} → f ≡ g → Is g d → Is f d
 is-as e i = rw e i
-
--- told of a literal that is the same
-pub passes-as : {f g : Found} {d : Due} {r : Ahead} → f ≡ g → Is g d → (r .next ≡ d .next) × (r .unmarks ≡ isUnmark0 (d .literal)) → Passes f r
-passes-as {f} {g} {d} {r} e i t = rw e (record { next = t .0 ∙ i .next; unmarks = t .1 ∙ ap isUnmark0 (i .literal) })
 
 -- a token that is neither a comment nor an operator
 over : (b : List ℕ) (at next past : ℕ) (t : Read) → NoComment t → NoOperator t → passOf t ≡ pass.Over next → past ≡ solid b next → Passes (foundBy b at t) (record { next = past; unmarks = false })
@@ -85,15 +56,6 @@ over b at next past (read.Operator n k) c o e p = absurd o
 over b at next past (read.Comment k) c o e p = absurd c
 over b at next past (read.Unread r k) c o e p = never (cc)
 
-unread : (b : List ℕ) (at : ℕ) (t : Read) (r : Refusal) (p : ℕ) → NoOperator t → passOf t ≡ pass.Unread r p → foundBy b at t ≡ nothingAt b
-unfolding foundBy passOf
-unread b at (read.Number v k) r p o e = never (cc)
-unread b at (read.Identifier l k) r p o e = never (cc)
-unread b at (read.String l k) r p o e = never (cc)
-unread b at (read.Operator n k) r p o e = absurd o
-unread b at (read.Comment k) r p o e = never (cc)
-unread b at (read.Unread q k) r p o e = refl
-
 module _ (b : List ℕ) (at : ℕ) where
   module _ (g : (at < length b) × (192 ≤ getD b at 0)) (t : Pass) (e : t ≡ passOf (tokenAt b at)) where
     operands : NoOperator (tokenAt b at)
@@ -102,10 +64,6 @@ module _ (b : List ℕ) (at : ℕ) where
     pub sequence-over : (next past : ℕ) → NoComment (tokenAt b at) → t ≡ pass.Over next → past ≡ solid b next → Passes (foundAt b at) (record { next = past; unmarks = false })
     unfolding foundAt
     sequence-over next past c f p = over b at next past (tokenAt b at) c operands (sym e ∙ f) p
-
-    pub sequence-unread : (r : Refusal) (p : ℕ) → t ≡ pass.Unread r p → foundAt b at ≡ nothingAt b
-    unfolding foundAt
-    sequence-unread r p f = unread b at (tokenAt b at) r p operands (sym e ∙ f)
 
   module _ (f : Form) (h : Shows b at f) where
     pub number-over : (raw next past : ℕ) → f ≡ form.Number raw next → past ≡ solid b next → Passes (foundAt b at) (record { next = past; unmarks = false })

@@ -2,20 +2,20 @@
 -- and a literal left in the running one. So the engine need not judge again what the check has judged. In order: what it says; a run keeps it;
 -- a run begins with it; the literal that is due. Assumes nothing.
 use Prim.Native.Nat.{ℕ, zero, suc, _<_, zero-le}
-use mathlib.Core.Path.{_≡_, subst}
+use mathlib.Core.Path.{_≡_}
 use mathlib.Core.Bool.{false}
 use mathlib.Core.List.{List, [], _∷_}
 use lib.Dec.{lit<}
 use lib.ListN.{getD, length-replicate}
 use borrow.Author.Tests.{leb-false}
 use Rattle.machine.specs.Limits.{frameSize}
-use Rattle.machine.specs.State.{Context, State, zeroFrame, running}
+use Rattle.machine.specs.State.{State, zeroFrame, running}
 use Rattle.machine.specs.State as state
 use Rattle.machine.specs.Skeleton.{solid, solidFrom}
 use Rattle.machine.specs.Literal.{Code, bytesOf, foundAt}
 use Rattle.machine.specs.Contexts.{atEnd, settle}
 use Rattle.machine.specs.Step.{ended, run, begin}
-use Rattle.machine.specs.Page.{preambleOf, preambleEnd, pageStart}
+use Rattle.machine.specs.Page.{preambleOf, pageStart}
 use Rattle.machine.specs.Isolation.{codeAt, startAt, moment, Bounded}
 use Rattle.machine.proofs.Readable.{IsLiteral, Readable, at-end, Whole}
 use Rattle.machine.proofs.SoundValues.{reading}
@@ -41,9 +41,10 @@ pub record Going (b : List ℕ) (at end : ℕ) : Type 0 where
 -- ---- a run keeps it
 
 pub legible-run : (code : Code) (n : ℕ) (s : State) → Legible code s → Legible code (run n code s)
-legible-run code n s h =
-    (run-bounded code n s (h .0),
-    run-held code (reading code) (λ t. Due (t .contexts)) (λ t live _. step-due code t live) (λ t live k due. by-contexts t live (here-passes code t k due)) n s (h .0) (h .1 .1) (h .1 .0))
+legible-run code n s h = (
+  run-bounded code n s (h .0),
+  run-held code (reading code) (λ t. Due (t .contexts)) (λ t live _. step-due code t live) (λ t live k due. by-contexts t live (here-passes code t k due)) n s (h .0) (h .1 .1) (h .1 .0),
+)
 
 -- ---- a run begins with it
 
@@ -51,9 +52,10 @@ legible-run code n s h =
 pub legible-preamble : (pre body : List ℕ) → Whole pre → Legible (pre ∷ body ∷ []) (begin (pre ∷ body ∷ []) 0 zeroFrame [])
 unfolding begin settle zeroFrame
 legible-preamble pre body whole =
-    let code : Code = pre ∷ body ∷ [] in
-    (begin-bounded code 0 zeroFrame [] (length-replicate frameSize state.zero) zero-le,
-    (begin-held code (reading code) 0 zeroFrame [] (record { there = lit< tt; readable = whole }) (all-replicate (OfValue (reading code) []) frameSize state.zero tt) tt, leave-lands any [] _ tt tt .due))
+    let code : Code = pre ∷ body ∷ [] in (
+      begin-bounded code 0 zeroFrame [] (length-replicate frameSize state.zero) zero-le,
+      (begin-held code (reading code) 0 zeroFrame [] (record { there = lit< tt; readable = whole }) (all-replicate (OfValue (reading code) []) frameSize state.zero tt) tt, leave-lands any [] _ tt tt .due),
+    )
 
 -- a page, from what the preamble left
 pub legible-page : (allowance : ℕ) (pre body : List ℕ) → Whole pre → Whole body → Legible (pre ∷ body ∷ []) (pageStart allowance pre body)

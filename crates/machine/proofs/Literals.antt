@@ -93,7 +93,7 @@ moment-ready bodies whole allowance = moment-held reading (λ s. Due (s .context
 }) allowance bodies (record { there = lit< tt; readable = whole 0 }) (λ n. record { there = lit< tt; readable = whole (suc n) })
 
 -- the bodies of a master; where there is none, no bytes
-all-whole : (s : List ℕ) (spans : List Span) → AllWhole s spans → (i : ℕ) → Whole (getD (bodiesOf s spans) i [])
+pub all-whole : (s : List ℕ) (spans : List Span) → AllWhole s spans → (i : ℕ) → Whole (getD (bodiesOf s spans) i [])
 unfolding bodiesOf solid solidFrom
 all-whole s [] h i = at-end
 all-whole s (p ∷ ps) h zero = h .0

@@ -6,16 +6,14 @@ use mathlib.Core.List.{List}
 use Prim.Native.Nat.{ℕ, _+_, _%_, _<_, _≤_}
 use native.Mathlib.Omega.{arith}
 use lib.Dec.{eqb}
-use lib.IntN.{pos}
 use lib.ListN.{length, getD}
 use lib.Seq.{slice}
-use borrow.Author.Tests.{lt-ltb, le-ltb, eq-eqb}
+use borrow.Author.Tests.{lt-ltb, le-ltb}
 use Rattle.numbers.specs.declared.Answer.{Answer}
 use Rattle.numbers.specs.declared.Answer.the-variants.{Is, TooLarge, ByZero}
-use Rattle.numbers.specs.Fraction.{ratioOf}
 use Rattle.numbers.proofs.Cond.{either, split}
 use Rattle.tokens.specs.declared.Read.{Read}
-use Rattle.tokens.specs.declared.Read.the-variants.{Number, Identifier, String, Operator, Comment, Unread}
+use Rattle.tokens.specs.declared.Read.the-variants.{Number, Identifier, String, Operator, Unread}
 use Rattle.tokens.specs.declared.Form.{Form}
 use Rattle.tokens.specs.declared.Form.the-variants as form
 use Rattle.tokens.specs.declared.Refusal.the-variants.{CutOff}
@@ -28,7 +26,7 @@ use Rattle.tokens.specs.declared.Rule.the-variants.{Plain, Named}
 use Rattle.tokens.specs.Format.{stringType, integerType, rationalType, identifierType, commentType, continuedType}
 use Rattle.tokens.specs.Text.{every, isName}
 use Rattle.tokens.specs.Joined.{Joined, whole, cutAt, continued, pieceAt, joinedFrom, joinedAt}
-use Rattle.tokens.specs.Token.{numberRead, integerSize, rationalSize, integerIn, rationalIn, ruled, judged, sequence, tokenOf, tokenAt}
+use Rattle.tokens.specs.Token.{numberRead, integerSize, rationalSize, ruled, judged, sequence, tokenOf, tokenAt}
 use Rattle.tokens.specs.Inner.{summaryOf, gatheredOf}
 use Rattle.tokens.specs.Passing.{Shows, passOf}
 use Rattle.tokens.proofs.Theorems.{token-end}

@@ -1,7 +1,7 @@
 -- From the table to the preamble's end and a page's. Assumes nothing.
 use Prim.Native.Nat.{ℕ, _+_, _-_, _≤_}
 use native.Mathlib.Omega.{arith}
-use mathlib.Core.Path.{_≡_, refl, sym, ap, _∙_}
+use mathlib.Core.Path.{_≡_, refl, sym, ap, subst, _∙_}
 use mathlib.Core.Logic.{inl, inr}
 use mathlib.Core.List.{List, [], _++_}
 use lib.ListN.{length, take, length-append}
@@ -13,7 +13,9 @@ use Rattle.machine.specs.State.{State, zeroFrame}
 use Rattle.machine.specs.Skeleton.{solid}
 use Rattle.machine.specs.Literal.{bytesOf}
 use Rattle.machine.specs.Step.{run, begin}
-use Rattle.machine.specs.Page.{preambleEnd}
+use Rattle.machine.specs.Page.{preambleEnd, pageStart}
+use Rattle.machine.proofs.Readable.{Whole}
+use Rattle.machine.proofs.Legible.{Legible, legible-preamble, legible-page}
 use Rattle.names.specs.Names.{both}
 use Rattle.state.specs.declared.Registers.{Registers}
 use Rattle.state.specs.Layout.{valuesAt, aside, abs}
@@ -24,7 +26,7 @@ use Rattle.state.proofs.Cutting.{values-cut, values-moved}
 use Rattle.state.proofs.Framing.{frame-filled}
 use Rattle.engine.specs.Steps.{Ran}
 use Rattle.origins.proofs.ByOrigin.{empty}
-use Rattle.prints.specs.Ran.{Preambled, Paged}
+use Rattle.prints.specs.Ran.{Preambled, Paged, Ready}
 use Rattle.prints.proofs.Growing.{begin-grown}
 use Rattle.prints.proofs.SameBytes.{preamble-alone}
 
@@ -32,11 +34,21 @@ opened-begins : (code : List (List ℕ)) (origin at end : ℕ) (frame cells : Li
 unfolding opening begin
 opened-begins code origin at end frame cells e f = rw (e, f)
 
+-- the preamble begins
+preamble-starts : (w w₁ w₂ pre none : List ℕ) (at end : ℕ) (r : Registers) → 48000 ≤ length w → slots w₁ ≡ filled (slots w) 128 50 → at ≡ solid (bytesOf (both pre none) 0) 0 → end ≡ length pre → Opened 0 at end 0 w₁ w₂ r
+    → abs w₂ r ≡ begin (both pre none) 0 zeroFrame []
+unfolding valuesAt asc
+preamble-starts w w₁ w₂ pre none at end r room p₁ ea ee o = o .is ∙ (rw (p₁, frame-filled (slots w) (wide w room)) (opened-begins (both pre none) 0 at end zeroFrame [] ea ee))
+
+pub preamble-legible : (w w₁ w₂ pre none : List ℕ) (at end : ℕ) (r : Registers) → 48000 ≤ length w → slots w₁ ≡ filled (slots w) 128 50 → at ≡ solid (bytesOf (both pre none) 0) 0 → end ≡ length pre → Opened 0 at end 0 w₁ w₂ r
+    → Whole pre → Legible (both pre none) (abs w₂ r)
+preamble-legible w w₁ w₂ pre none at end r room p₁ ea ee o whole =
+    subst (Legible (both pre none)) (sym (preamble-starts w w₁ w₂ pre none at end r room p₁ ea ee o)) (legible-preamble pre none whole)
+
 module _ (w w₁ w₂ w₃ w′ : List ℕ) (pre none : List ℕ) (at end allowance : ℕ) (r q : Registers) (room : 48000 ≤ length w) (alone : length none ≡ 0)
     (p₁ : slots w₁ ≡ filled (slots w) 128 50) (ea : at ≡ solid (bytesOf (both pre none) 0) 0) (ee : end ≡ length pre) (o : Opened 0 at end 0 w₁ w₂ r) (n : Ran pre none allowance w₂ r w₃ q) (p : slots w′ ≡ copied (slots w₃) 128 1764 50) where
   started : abs w₂ r ≡ begin (both pre none) 0 zeroFrame []
-  unfolding valuesAt asc
-  started = o .is ∙ (rw (p₁, frame-filled (slots w) (wide w room)) (opened-begins (both pre none) 0 at end zeroFrame [] ea ee))
+  started = preamble-starts w w₁ w₂ pre none at end r room p₁ ea ee o
 
   ended-as : abs w₃ q ≡ preambleEnd allowance pre
   unfolding preambleEnd
@@ -69,8 +81,8 @@ module _ (w w₁ w₂ w₃ w′ : List ℕ) (pre none : List ℕ) (at end allowa
         counted = omega arith;
       }
 
-module _ (w w₁ w₂ w′ : List ℕ) (pre body : List ℕ) (at end used allowance : ℕ) (r q : Registers) (room : 48000 ≤ length w) (few : used ≤ 1024)
-    (p₁ : slots w₁ ≡ copied (slots w) 1764 128 50) (ea : at ≡ solid (bytesOf (both pre body) 1) 0) (ee : end ≡ length body) (o : Opened 1 at end used w₁ w₂ r) (n : Ran pre body allowance w₂ r w′ q) where
+-- a page begins
+module _ (w w₁ : List ℕ) (used : ℕ) (room : 48000 ≤ length w) (few : used ≤ 1024) (p₁ : slots w₁ ≡ copied (slots w) 1764 128 50) where
   frame-is : valuesAt (slots w₁) 128 50 ≡ aside w
   unfolding aside
   frame-is = rw p₁ (values-moved (slots w) 1764 128 50 (omega (arith, wide w room)) (inr (omega arith)))
@@ -82,8 +94,21 @@ module _ (w w₁ w₂ w′ : List ℕ) (pre body : List ℕ) (at end used allowa
   unfolding aside
   aside-is = rw p₁ (values-same (copied (slots w) 1764 128 50) (slots w) 1764 50 (same-copied (slots w) 1764 128 50 1764 _ (inl (omega arith))))
 
+  page-starts : (w₂ pre body : List ℕ) (at end : ℕ) (r : Registers) → at ≡ solid (bytesOf (both pre body) 1) 0 → end ≡ length body → Opened 1 at end used w₁ w₂ r
+      → abs w₂ r ≡ begin (both pre body) 1 (aside w) (valuesAt (slots w) 728 used)
+  page-starts w₂ pre body at end r ea ee o = rw (o .is, frame-is, cells-are, opened-begins (both pre body) 1 at end (aside w) (valuesAt (slots w) 728 used) ea ee) refl
+
+pub page-legible : (w w₁ w₂ pre body : List ℕ) (at end used allowance : ℕ) (r : Registers) → Ready pre allowance used w → slots w₁ ≡ copied (slots w) 1764 128 50 → at ≡ solid (bytesOf (both pre body) 1) 0 → end ≡ length body
+    → Opened 1 at end used w₁ w₂ r → Whole pre → Whole body → Legible (both pre body) (abs w₂ r)
+unfolding pageStart
+page-legible w w₁ w₂ pre body at end used allowance r k p₁ ea ee o whole own =
+    let e : abs w₂ r ≡ pageStart allowance pre body = page-starts w w₁ used (k .room) (k .few) p₁ w₂ pre body at end r ea ee o ∙ rw (k .frame-kept, k .cells-kept) in
+    subst (Legible (both pre body)) (sym e) (legible-page allowance pre body whole own)
+
+module _ (w w₁ w₂ w′ : List ℕ) (pre body : List ℕ) (at end used allowance : ℕ) (r q : Registers) (room : 48000 ≤ length w) (few : used ≤ 1024)
+    (p₁ : slots w₁ ≡ copied (slots w) 1764 128 50) (ea : at ≡ solid (bytesOf (both pre body) 1) 0) (ee : end ≡ length body) (o : Opened 1 at end used w₁ w₂ r) (n : Ran pre body allowance w₂ r w′ q) where
   ran : abs w′ q ≡ run allowance (both pre body) (begin (both pre body) 1 (aside w) (valuesAt (slots w) 728 used))
-  ran = n .does ∙ (rw (o .is, frame-is, cells-are, opened-begins (both pre body) 1 at end (aside w) (valuesAt (slots w) 728 used) ea ee) refl)
+  ran = n .does ∙ ap (run allowance (both pre body)) (page-starts w w₁ used room few p₁ w₂ pre body at end r ea ee o)
 
   grown : (new : List Value) × (valuesAt (slots w′) 728 (q .used) ≡ valuesAt (slots w) 728 used ++ new)
   grown =
@@ -113,7 +138,7 @@ module _ (w w₁ w₂ w′ : List ℕ) (pre body : List ℕ) (at end used allowa
       record {
         good = n .good;
         does = ran;
-        keeps = n .keeps ∙ o .keeps ∙ aside-is;
+        keeps = n .keeps ∙ o .keeps ∙ aside-is w w₁ used room few p₁;
         cells = front;
         more = as-many;
         counted = omega arith;

@@ -7,8 +7,8 @@ use lib.ListN.{length, take, drop}
 use lib.Seq.{sets, slice}
 use Rattle.table.specs.Slots.{slots}
 use Rattle.tokens.proofs.Summaries.{take-drop}
-use Rattle.machine.specs.Step.{run}
 use Rattle.machine.specs.Page.{preambleEnd, pageStart, pageEnd, resultOf, pageResult, rowBytes}
+use Rattle.machine.proofs.Readable.{Whole}
 use Rattle.state.specs.declared.Registers.{Registers}
 use Rattle.state.specs.Layout.{abs}
 use Rattle.state.proofs.Parts.{length-values}
@@ -41,3 +41,9 @@ page-of-parts s a e b f used allowance w w′ q h k p = rw (← (part s a e h), 
 
 pub preamble-of-part : (s : List ℕ) (a e allowance : ℕ) (w′ : List ℕ) (q : Registers) → a ≤ e → Preambled (take (e - a) (drop a s)) allowance w′ q → Preambled (slice a e s) allowance w′ q
 preamble-of-part s a e allowance w′ q h p = rw (← (part s a e h)) p
+
+pub whole-part : (s : List ℕ) (a e : ℕ) → a ≤ e → Whole (slice a e s) → Whole (take (e - a) (drop a s))
+whole-part s a e h w = rw (part s a e h) w
+
+pub ready-part : (s : List ℕ) (a e allowance used : ℕ) (w : List ℕ) → a ≤ e → Ready (slice a e s) allowance used w → Ready (take (e - a) (drop a s)) allowance used w
+ready-part s a e allowance used w h r = rw (part s a e h) r

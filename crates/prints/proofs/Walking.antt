@@ -1,15 +1,16 @@
 -- The pages of a master, one after another. In order: the rows, one more at the end; the loop over the pages. Assumes nothing.
-use Prim.Native.Nat.{ℕ, zero, suc, _+_, _-_, _*_, _<_, _≤_}
+use Prim.Native.Nat.{ℕ, zero, suc, _+_, _*_, _<_, _≤_}
 use native.Mathlib.Nat.{zero-add, add-zero}
 use native.Mathlib.Omega.{arith}
 use mathlib.Core.Path.{_≡_, refl, sym, ap, _∙_}
-use mathlib.Core.List.{List, [], _++_, append-assoc, append-nil}
+use mathlib.Core.List.{List, _++_, append-assoc, append-nil}
 use lib.ListN.{length, getD, length-append}
 use lib.Seq.{slice, sets}
 use Rattle.table.specs.Words.{wordBytes}
 use Rattle.table.proofs.Stores.{sets-append}
 use Rattle.machine.specs.Limits.{mostPages}
 use Rattle.machine.specs.Page.{Result, preambleOf, pageResult, resultAt, bytesIn, rowWords, rowBytes, rowsFrom}
+use Rattle.machine.proofs.Readable.{Whole}
 use Rattle.skeleton.specs.Spans.{Placed}
 use Rattle.prints.specs.Ran.{Ready, Rowed, Holds}
 
@@ -62,6 +63,10 @@ page-asks last page h le =
     let y = l .each page (omega (arith, h .there)) in
     (x .ordered, x .inside, y .ordered, y .inside, omega (arith, l .few, h .there))
 
+-- the bytes of a page by its place have been judged
+pub whole-at : {s t : List ℕ} (last n : ℕ) → Holds s t last → n ≤ last → Whole (slice (getD t (2 * n) 0) (getD t (2 * n + 1) 0) s)
+whole-at last n h le = rw (h .placed .each n (omega (arith, h .there)) .is) (h .whole n)
+
 -- the bytes of a page by its place
 pub result-at : (s t : List ℕ) (a n : ℕ) (bodies : List (List ℕ)) → 1 ≤ n → n < length bodies → Placed s t bodies
     → resultAt a bodies n ≡ pageResult a (slice (getD t 0 0) (getD t 1 0) s) (slice (getD t (2 * n) 0) (getD t (2 * n + 1) 0) s)
@@ -75,8 +80,8 @@ module _ (s t : List ℕ) (last used a : ℕ) (w₀ rows₀ w rows : List ℕ) (
 
   -- what a page and its row ask
   pub row-asks : length s ≤ 16777215 → a ≤ 1000000 → 8208 ≤ length rows₀
-      → Ready (slice (at 0) (at 1) s) a used w × (length s ≤ 16777215) × (at 0 ≤ at 1) × (at 1 ≤ length s) × (at (2 * n) ≤ at (2 * n + 1)) × (at (2 * n + 1) ≤ length s) × (a ≤ 1000000) × (16 * n + 16 ≤ length rows)
-  row-asks f g r = let p = page-asks last n l h in (k .ready, f, p .0, p .1, p .2, p .3, g, omega (arith, p .4, k .rows-long))
+      → Ready (slice (at 0) (at 1) s) a used w × (length s ≤ 16777215) × (at 0 ≤ at 1) × (at 1 ≤ length s) × (at (2 * n) ≤ at (2 * n + 1)) × (at (2 * n + 1) ≤ length s) × (a ≤ 1000000) × Whole (slice (at 0) (at 1) s) × Whole (slice (at (2 * n)) (at (2 * n + 1)) s) × (16 * n + 16 ≤ length rows)
+  row-asks f g r = let p = page-asks last n l h in (k .ready, f, p .0, p .1, p .2, p .3, g, whole-at last 0 l (omega arith), whole-at last n l h, omega (arith, p .4, k .rows-long))
 
   pub walk-goes : (w′ rows′ : List ℕ) → Rowed (slice (at 0) (at 1) s) (slice (at (2 * n)) (at (2 * n + 1)) s) a used n w′ rows rows′ → length w′ ≡ length w → length rows′ ≡ length rows → Walked s t last used a w₀ rows₀ w′ rows′ (n + 1)
   walk-goes w′ rows′ r e f = record {

@@ -1,15 +1,16 @@
 -- What the preamble and a page leave in the table, and a whole master: for contracts of inner functions alone. Assumes nothing.
 use Prim.Native.Nat.{ℕ, _+_, _*_, _<_, _≤_}
 use mathlib.Core.Path.{_≡_}
-use mathlib.Core.List.{List}
+use mathlib.Core.List.{List, []}
 use lib.IntN.{pos}
-use lib.ListN.{length, replicate}
+use lib.ListN.{length, getD, replicate}
 use lib.Seq.{sets}
 use Rattle.table.specs.Slots.{slots}
 use Rattle.machine.specs.Step.{run, begin}
 use Rattle.tokens.specs.declared.Outcome.{Outcome}
 use Rattle.machine.specs.Limits.{mostPages, scratchSize, mostCells}
 use Rattle.machine.specs.Promise.{finished, over, runAnswer, rowsLeaves, reprintAnswer, rowLeaves, sectionsLeaves}
+use Rattle.machine.proofs.Readable.{Whole}
 use Rattle.skeleton.specs.Spans.{Placed}
 use Rattle.machine.specs.Page.{Result, preambleEnd, pageResult, rowBytes, sectionBytes}
 use Rattle.names.specs.Names.{both}
@@ -46,12 +47,13 @@ pub record Rowed (pre body : List ℕ) (allowance used n : ℕ) (w′ rows rows�
 
 -- ---- a whole master
 
--- a table of places, and in it the body of that number and those before
+-- a table of places, and in it the body of that number and those before, all of them judged
 pub record Holds (s t : List ℕ) (page : ℕ) : Type 0 where
   pub wide : 2 * mostPages + 2 ≤ length t
   pub bodies : List (List ℕ)
   pub placed : Placed s t bodies
   pub there : page < length bodies
+  pub whole : (i : ℕ) → Whole (getD bodies i [])
 
 -- every body run: the answer, the table and the rows
 pub record RanAll (allowance : ℕ) (bodies : List (List ℕ)) (w′ rows rows′ : List ℕ) (r : Outcome) : Type 0 where

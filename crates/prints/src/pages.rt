@@ -2,13 +2,14 @@
 ghost use mathlib.Core.Path.{_≡_};
 ghost use Prim.Native.Nat.{_≤_};
 ghost use lib.ListN.{length};
+ghost use Rattle.machine.proofs.Readable.{Whole};
 ghost use Rattle.origins.specs.Bodies.{Short};
-ghost use Rattle.prints.specs.Ran.{Preambled, Paged};
+ghost use Rattle.prints.specs.Ran.{Preambled, Paged, Ready};
 use state::Registers;
 
 // The preamble, beside no page.
 pub fn preamble<'a>(w: &mut [u8], pre: &'a [u8], none: &'a [u8], allowance: usize) -> Registers
-    requires { ⌜ (48000 ≤ length (now w)) × Short (now pre) (now none) × (length (now none) ≡ 0) × (allowance ≤ 1000000) ⌝ }
+    requires { ⌜ (48000 ≤ length (now w)) × Short (now pre) (now none) × (length (now none) ≡ 0) × (allowance ≤ 1000000) × Whole (now pre) ⌝ }
     ensures { λ q. ⌜ Preambled (now (pre .entry)) allowance (now (w .exit)) q ⌝ }
 {
     contexts::frames::zero_frame(w);
@@ -33,7 +34,7 @@ pub fn page<'a>(
     used: usize,
     allowance: usize,
 ) -> Registers
-    requires { ⌜ (48000 ≤ length (now w)) × Short (now pre) (now body) × (used ≤ 1024) × (allowance ≤ 1000000) ⌝ }
+    requires { ⌜ Ready (now pre) allowance used (now w) × Short (now pre) (now body) × (allowance ≤ 1000000) × Whole (now pre) × Whole (now body) ⌝ }
     ensures { λ q. ⌜ Paged (now (pre .entry)) (now (body .entry)) used allowance (now (w .entry)) (now (w .exit)) q ⌝ }
 {
     contexts::frames::take_frame(w);

@@ -1,17 +1,18 @@
 // Bodies of a master run, by the places where they stand. In order: the preamble; a page; its row; every page.
 ghost use mathlib.Core.Path.{_≡_};
 ghost use mathlib.Core.List.{List};
-ghost use Prim.Native.Nat.{ℕ, _+_, _*_, _<_, _≤_};
+ghost use Prim.Native.Nat.{ℕ, _+_, _*_, _≤_};
 ghost use lib.ListN.{length, getD};
 ghost use lib.Seq.{slice, sets};
 ghost use Rattle.machine.specs.Page.{rowsFrom};
+ghost use Rattle.machine.proofs.Readable.{Whole};
 ghost use Rattle.skeleton.specs.Spans.{Placed};
 ghost use Rattle.prints.specs.Ran.{Preambled, Paged, Ready, Rowed, Holds};
 use state::Registers;
 
 // The preamble of the master s, whose bytes are a to e.
 pub fn preamble_of(w: &mut [u8], s: &[u8], a: usize, e: usize, allowance: usize) -> Registers
-    requires { ⌜ (48000 ≤ length (now w)) × (length (now s) ≤ 16777215) × (a ≤ e) × (e ≤ length (now s)) × (allowance ≤ 1000000) ⌝ }
+    requires { ⌜ (48000 ≤ length (now w)) × (length (now s) ≤ 16777215) × (a ≤ e) × (e ≤ length (now s)) × (allowance ≤ 1000000) × Whole (slice a e (now s)) ⌝ }
     ensures { λ q. ⌜ Preambled (slice a e (now (s .entry))) allowance (now (w .exit)) q ⌝ }
 {
     crate::pages::preamble(w, &s[a..e], &s[0..0], allowance)
@@ -28,7 +29,7 @@ pub fn page_of(
     used: usize,
     allowance: usize,
 ) -> Registers
-    requires { ⌜ Ready (slice a e (now s)) allowance used (now w) × (length (now s) ≤ 16777215) × (a ≤ e) × (e ≤ length (now s)) × (b ≤ f) × (f ≤ length (now s)) × (allowance ≤ 1000000) ⌝ }
+    requires { ⌜ Ready (slice a e (now s)) allowance used (now w) × (length (now s) ≤ 16777215) × (a ≤ e) × (e ≤ length (now s)) × (b ≤ f) × (f ≤ length (now s)) × (allowance ≤ 1000000) × Whole (slice a e (now s)) × Whole (slice b f (now s)) ⌝ }
     ensures { λ q. ⌜ Paged (slice a e (now (s .entry))) (slice b f (now (s .entry))) used allowance (now (w .entry)) (now (w .exit)) q ⌝ }
 {
     crate::pages::page(w, &s[a..e], &s[b..f], used, allowance)
@@ -47,7 +48,7 @@ fn page_row(
     rows: &mut [u8],
     n: usize,
 )
-    requires { ⌜ Ready (slice a e (now s)) allowance used (now w) × (length (now s) ≤ 16777215) × (a ≤ e) × (e ≤ length (now s)) × (b ≤ f) × (f ≤ length (now s)) × (allowance ≤ 1000000) × (16 * n + 16 ≤ length (now rows)) ⌝ }
+    requires { ⌜ Ready (slice a e (now s)) allowance used (now w) × (length (now s) ≤ 16777215) × (a ≤ e) × (e ≤ length (now s)) × (b ≤ f) × (f ≤ length (now s)) × (allowance ≤ 1000000) × Whole (slice a e (now s)) × Whole (slice b f (now s)) × (16 * n + 16 ≤ length (now rows)) ⌝ }
     ensures { λ _. ⌜ Rowed (slice a e (now (s .entry))) (slice b f (now (s .entry))) allowance used n (now (w .exit)) (now (rows .entry)) (now (rows .exit)) ⌝ }
 {
     let q = page_of(w, s, a, e, b, f, used, allowance);

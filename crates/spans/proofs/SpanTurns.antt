@@ -24,7 +24,7 @@ use Rattle.machine.specs.declared.Role.{Role}
 use Rattle.machine.specs.declared.Role.the-variants as role
 use Rattle.machine.specs.Skeleton.{opening, holders, barred, oneOf, roleOf, solid, follow, andThen, held, passing, dueBy, due, literalBy, literalsFrom, bodyAt, literalAt}
 use Rattle.machine.proofs.Inside.{EndsIn, token-inside, PassedIn, literal-later}
-use Rattle.machine.proofs.Comments.{NoComment, none-at, one-at, solid-is, comments-are}
+use Rattle.machine.proofs.Comments.{NoComment, one-at, solid-is, comments-are}
 use Rattle.machine.proofs.TokenLocal.{judged-all}
 use Rattle.machine.proofs.Bodies.{body-later, body-ends}
 use Rattle.machine.proofs.BodyLocal.{body-more}
@@ -277,14 +277,16 @@ module _ {s starts : List ℕ} {at count : ℕ} where
 
         awaits-opens : Within s (set starts count y) at (count + 1) next
         awaits-opens =
-            let l = awaits-room next e in
-            (omega arith, record {
-              few = omega (arith, l);
-              long = length-set starts count y ∙ i .1 .long;
-              first = λ _. split 0 count (λ g. ap (bodyAt mostOpen s) (getD-set-other starts count 0 y 0 (λ z. omega arith)) ∙ i .1 .first g)
-                  (λ g. let z : count ≡ 0 = omega arith in rw z (ap (bodyAt mostOpen s) (getD-set-same starts 0 y 0 (omega (arith, i .1 .long))) ∙ i .0 z));
-              each = opens-each;
-            })
+            let l = awaits-room next e in (
+              omega arith,
+              record {
+                few = omega (arith, l);
+                long = length-set starts count y ∙ i .1 .long;
+                first = λ _. split 0 count (λ g. ap (bodyAt mostOpen s) (getD-set-other starts count 0 y 0 (λ z. omega arith)) ∙ i .1 .first g)
+                    (λ g. let z : count ≡ 0 = omega arith in rw z (ap (bodyAt mostOpen s) (getD-set-same starts 0 y 0 (omega (arith, i .1 .long))) ∙ i .0 z));
+                each = opens-each;
+              },
+            )
 
     module _ (p : ℕ) (i : Within s starts at count p) where
       within-goes : (refusal : Refusal) (place : ℕ) → literalAt (16 - count) s p ≡ Bad refusal place → ⊥
@@ -308,17 +310,19 @@ module _ {s starts : List ℕ} {at count : ℕ} where
         within-last z = sym (i .1 .first (i .0)) ∙ rw z at within-ends
 
         within-closes : (count - 1 ≡ 0 → ⊥) → Within s starts at (count - 1) next
-        within-closes f =
-            (omega (arith, i .0, f), record {
-              few = omega (arith, i .1 .few);
-              long = i .1 .long;
-              first = λ _. i .1 .first (i .0);
-              each = λ j h.
-                  let n = fewer-around count j h in
-                  let m = fewer-open count (i .0) (i .1 .few) in
-                  i .1 .each j (inner-among count j h) ∙ ap (λ (x : ℕ). rest x (16 - count) s p) n ∙ rest-closes (16 - count) s p next e (count - 1 - 1 - j)
-                  ∙ ap (λ (x : ℕ). rest (count - 1 - 1 - j) x s next) m;
-            })
+        within-closes f = (
+          omega (arith, i .0, f),
+          record {
+            few = omega (arith, i .1 .few);
+            long = i .1 .long;
+            first = λ _. i .1 .first (i .0);
+            each = λ j h.
+                let n = fewer-around count j h in
+                let m = fewer-open count (i .0) (i .1 .few) in
+                i .1 .each j (inner-among count j h) ∙ ap (λ (x : ℕ). rest x (16 - count) s p) n ∙ rest-closes (16 - count) s p next e (count - 1 - 1 - j)
+                ∙ ap (λ (x : ℕ). rest (count - 1 - 1 - j) x s next) m;
+          },
+        )
 
     -- ---- the token there
 

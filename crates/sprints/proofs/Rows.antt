@@ -30,7 +30,7 @@ use Rattle.machine.specs.Step.{execute, step, run}
 use Rattle.machine.proofs.Comments.{NoComment, none-at, solid-is}
 use Rattle.nesting.proofs.BodyTurns.{stands-at, number-shown, operator-shown}
 use Rattle.literals.specs.declared.Due.{Due}
-use Rattle.literals.specs.Dues.{Stands, Is}
+use Rattle.literals.specs.Dues.{Is}
 use Rattle.literals.proofs.Standing.{solid-again, stands-reads}
 use Rattle.literals.proofs.Passing.{solid-inside}
 use Rattle.origins.proofs.ByOrigin.{next-inside}

@@ -3,7 +3,7 @@
 // here is left undone, for `rides` and `engine`; of a literal that fails it is told that it does.
 ghost use mathlib.Core.Path.{_≡_};
 ghost use mathlib.Core.Bool.{true, false};
-ghost use Prim.Native.Nat.{ℕ, _+_, _<_, _≤_};
+ghost use Prim.Native.Nat.{ℕ, _<_, _≤_};
 ghost use lib.ListN.{length, getD};
 ghost use types.Run.{OneOf};
 ghost use mathlib.Core.List.{[], _∷_};
@@ -21,6 +21,7 @@ ghost use Rattle.tokens.specs.Token.{tokenAt};
 ghost use Rattle.state.specs.Layout.{Busy};
 ghost use Rattle.literals.specs.Dues.{Stands};
 ghost use Rattle.sprints.specs.Swift.{Stood, Left, marked, origin, ending, quiet, Flat, Strides, Rowed};
+use literals::reading::TEXT;
 use machine::Effect;
 use machine::FrameOp;
 use machine::Literal;
@@ -31,7 +32,6 @@ use machine::VectorOp;
 use machine::Work;
 use numbers::Answer;
 use numbers::Number;
-use literals::reading::TEXT;
 use state::Registers;
 use tokens::Form;
 

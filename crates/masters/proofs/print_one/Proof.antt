@@ -1,7 +1,7 @@
 -- `print_one` meets its contract. Assumes nothing.
 use native.Mathlib.Omega.{arith}
 use native.Mathlib.Nat.{le-refl}
-use Rattle.prints.proofs.Walking.{page-asks}
+use Rattle.prints.proofs.Walking.{page-asks, whole-at}
 use Rattle.masters.proofs.EveryBody.{ready-of}
 use Rattle.masters.proofs.OneBody.{shown-first, shown-page}
 use borrow.Author.Needs.{needs}
@@ -26,7 +26,7 @@ print-one-spec =
     (λ c. search needs)
     (λ c. search needs)
     (λ c. search needs)
-    (λ c κs. let g = page-asks _ _ (c .before .before .before .before .before .before .before .before .before .before .before .pre .0) (le-refl _) in (ready-of _ _ _ _ (c .before .before .before .before .before .before .before .before .before .before .before .pre .1), c .before .before .before .before .before .before .before .before .before .before .before .pre .2, g .0, g .1, g .2, g .3, c .before .before .before .before .before .before .before .before .before .before .before .pre .3))
+    (λ c κs. let g = page-asks _ _ (c .before .before .before .before .before .before .before .before .before .before .before .pre .0) (le-refl _) in (ready-of _ _ _ _ (c .before .before .before .before .before .before .before .before .before .before .before .pre .1), c .before .before .before .before .before .before .before .before .before .before .before .pre .2, g .0, g .1, g .2, g .3, c .before .before .before .before .before .before .before .before .before .before .before .pre .3, whole-at _ 0 (c .before .before .before .before .before .before .before .before .before .before .before .pre .0) (omega arith), whole-at _ _ (c .before .before .before .before .before .before .before .before .before .before .before .pre .0) (le-refl _)))
     (λ c κs. search needs)
     (λ c. search needs)
     (λ c. search needs)

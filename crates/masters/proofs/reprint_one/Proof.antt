@@ -1,7 +1,7 @@
 -- `reprint_one` meets its contract. Assumes nothing.
 use native.Mathlib.Omega.{arith}
 use native.Mathlib.Nat.{le-refl}
-use Rattle.prints.proofs.Walking.{page-asks}
+use Rattle.prints.proofs.Walking.{page-asks, whole-at}
 use Rattle.masters.proofs.OneBody.{one-unfinished, one-ran}
 use borrow.Author.Needs.{needs}
 use Rattle.masters.proofs.reprint_one.Statement.{statement}
@@ -13,7 +13,7 @@ reprint-one-spec =
     (tie.spec
     (λ c. search needs)
     (λ c. search needs)
-    (λ c κs. let g = page-asks _ _ (c .before .before .before .before .before .before .before .before .pre .0) (le-refl _) in (omega (arith, c .before .before .before .before .before .before .before .before .pre .3), c .before .before .before .before .before .before .before .before .pre .1, g .0, g .1, c .before .before .before .before .before .before .before .before .pre .2))
+    (λ c κs. let g = page-asks _ _ (c .before .before .before .before .before .before .before .before .pre .0) (le-refl _) in (omega (arith, c .before .before .before .before .before .before .before .before .pre .3), c .before .before .before .before .before .before .before .before .pre .1, g .0, g .1, c .before .before .before .before .before .before .before .before .pre .2, whole-at _ 0 (c .before .before .before .before .before .before .before .before .pre .0) (omega arith)))
     (λ c κs. search needs)
     (λ c κs. search needs)
     (λ c κs. search needs)

@@ -1,5 +1,6 @@
 -- `run_all` meets its contract. Assumes nothing.
 use native.Mathlib.Omega.{arith}
+use Rattle.prints.proofs.Walking.{whole-at}
 use Rattle.masters.proofs.EveryBody.{ready-of, all-unfinished, all-ran}
 use borrow.Author.Needs.{needs}
 use Rattle.masters.proofs.run_all.Statement.{statement}
@@ -11,7 +12,7 @@ run-all-spec =
     (tie.spec
     (λ c. omega (arith, c .before .before .before .before .before .before .pre .0 .wide))
     (λ c. omega (arith, c .before .before .before .before .before .before .before .pre .0 .wide))
-    (λ c κs. let x = (c .before .before .before .before .before .before .before .pre .0 .placed .each 0 (c .before .before .before .before .before .before .before .pre .0 .placed .some)) in (omega (arith, c .before .before .before .before .before .before .before .pre .3), c .before .before .before .before .before .before .before .pre .1, x .ordered, x .inside, c .before .before .before .before .before .before .before .pre .2))
+    (λ c κs. let x = (c .before .before .before .before .before .before .before .pre .0 .placed .each 0 (c .before .before .before .before .before .before .before .pre .0 .placed .some)) in (omega (arith, c .before .before .before .before .before .before .before .pre .3), c .before .before .before .before .before .before .before .pre .1, x .ordered, x .inside, c .before .before .before .before .before .before .before .pre .2, whole-at _ 0 (c .before .before .before .before .before .before .before .pre .0) (omega arith)))
     (λ c κs. search needs)
     (λ c κs. search needs)
     (λ c κs. search needs)

@@ -1,7 +1,6 @@
 use Rattle.sprints.proofs.Rows.{place-fits}
-use Rattle.rides.proofs.Calling.{settles, bytes-begun, paced-settles, paced-faults, good-after}
-use mathlib.Core.Path.{_≡_, refl, sym, ap, _∙_}
-use native.Mathlib.Omega.{arith}
+use Rattle.rides.proofs.Calling.{bytes-begun, paced-settles, paced-faults}
+use mathlib.Core.Path.{_∙_}
 use borrow.Author.Needs.{needs}
 use Rattle.rides.proofs.pace_if.Statement.{statement}
 use Rattle.rides.proofs.pace_if.Tie as tie

@@ -1,7 +1,5 @@
 use borrow.Author.Tests.{eqb-true}
 use mathlib.Core.Logic.{inl, inr}
-use mathlib.Core.Path.{_≡_, refl, sym, ap, _∙_}
-use borrow.Author.Needs.{needs}
 use Rattle.rides.proofs.passes_over.Statement.{statement}
 use Rattle.rides.proofs.passes_over.Tie as tie
 

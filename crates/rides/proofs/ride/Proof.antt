@@ -3,7 +3,6 @@ use Rattle.rides.proofs.Riding.{goes-as, body-as, busy-held, left-there
 use Rattle.rides.proofs.Holding.{over-role, if-role}
 use Rattle.literals.proofs.Finding.{body-fits}
 use Rattle.literals.proofs.Standing.{stands-ends, ends-solid}
-use Rattle.spans.proofs.SpanTurns.{end-fits}
 use Rattle.state.proofs.Ending.{not-on}
 use Rattle.sprints.proofs.Rows.{place-fits}
 use Rattle.origins.proofs.ByOrigin.{bytes-short}

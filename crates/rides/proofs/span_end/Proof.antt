@@ -1,11 +1,4 @@
-use Prim.Native.Nat.{_≤_, _<_}
-use mathlib.Core.List.{[]}
-use lib.ListN.{length}
-use Rattle.origins.proofs.ByOrigin.{nothing-there}
-use Rattle.spans.proofs.SpanTurns.{end-fits}
 use Rattle.rides.proofs.Riding.{no-body}
-use mathlib.Core.Path.{_≡_, refl, sym, ap, _∙_}
-use native.Mathlib.Omega.{arith}
 use borrow.Author.Needs.{needs}
 use Rattle.rides.proofs.span_end.Statement.{statement}
 use Rattle.rides.proofs.span_end.Tie as tie

@@ -2,9 +2,8 @@ use Rattle.spans.proofs.SpanTurns.{Where, where-first, where-reads, whe
 use Rattle.spans.specs.Memo.{Noted}
 use Rattle.passing.proofs.Knowing.{stands, operator-pair}
 use lib.ListN.{length}
-use Prim.Native.Nat.{ℕ, suc, _+_, _-_, _*_, _≤_, _<_}
+use Prim.Native.Nat.{_-_}
 use mathlib.Core.Path.{_≡_, refl, sym, ap, _∙_}
-use borrow.Author.Needs.{needs}
 use native.Mathlib.Omega.{arith}
 use Rattle.spans.proofs.pass.Statement.{statement}
 use Rattle.spans.proofs.pass.Tie as tie

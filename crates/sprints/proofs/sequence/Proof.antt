@@ -1,7 +1,7 @@
 use Rattle.sprints.proofs.Level.{flat-of}
 use Rattle.sprints.proofs.Swiftly.{figure-flat, name-flat, found-due, by-figure, by-name}
 use Rattle.sprints.proofs.Rows.{strides-none, strides-of, due-stands, due-inside, is-on}
-use mathlib.Core.Path.{_≡_, refl, sym, ap, _∙_}
+use mathlib.Core.Path.{refl}
 use borrow.Author.Needs.{needs}
 use Rattle.sprints.proofs.sequence.Statement.{statement}
 use Rattle.sprints.proofs.sequence.Tie as tie

@@ -2,8 +2,7 @@ use Rattle.nesting.proofs.BodyTurns.{operator-shown}
 use Rattle.literals.proofs.Passing.{number-over, sequence-over}
 use Rattle.passing.proofs.Knowing.{shown-sequence, shown-cut, ends-there}
 use Rattle.literals.proofs.Standing.{stands-reads, stands-solid, stands-ends, operator-passes}
-use mathlib.Core.Path.{_≡_, refl, sym, ap, _∙_}
-use native.Mathlib.Omega.{arith}
+use mathlib.Core.Path.{refl}
 use borrow.Author.Needs.{needs}
 use Rattle.literals.proofs.reading.ahead.Statement.{statement}
 use Rattle.literals.proofs.reading.ahead.Tie as tie

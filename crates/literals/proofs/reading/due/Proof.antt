@@ -2,7 +2,6 @@ use Rattle.nesting.proofs.BodyTurns.{operator-shown}
 use Rattle.literals.proofs.Passing.{number-found, operator-found, cut-found, is-as}
 use Rattle.passing.proofs.Knowing.{shown-sequence}
 use Rattle.literals.proofs.Standing.{stands-reads, stands-ends}
-use mathlib.Core.Path.{_≡_, refl, sym, ap, _∙_}
 use borrow.Author.Needs.{needs}
 use Rattle.literals.proofs.reading.due.Statement.{statement}
 use Rattle.literals.proofs.reading.due.Tie as tie

@@ -1,7 +1,7 @@
 use Rattle.passing.proofs.Knowing.{text-there, name-there}
 use Rattle.literals.proofs.Standing.{stands-reads}
 use Rattle.literals.proofs.Finding.{name-inside, is-name, is-text}
-use mathlib.Core.Path.{_≡_, refl, sym, ap, _∙_}
+use mathlib.Core.Path.{refl, sym, _∙_}
 use native.Mathlib.Omega.{arith}
 use borrow.Author.Needs.{needs}
 use Rattle.literals.proofs.reading.due_sequence.Statement.{statement}

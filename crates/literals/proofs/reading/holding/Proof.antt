@@ -1,6 +1,6 @@
 use Rattle.literals.proofs.Standing.{solid-body, ends-solid}
 use Rattle.literals.proofs.Finding.{body-fits, holding-found}
-use mathlib.Core.Path.{_≡_, refl, sym, ap, _∙_}
+use mathlib.Core.Path.{refl, sym, _∙_}
 use native.Mathlib.Omega.{arith}
 use borrow.Author.Needs.{needs}
 use Rattle.literals.proofs.reading.holding.Statement.{statement}

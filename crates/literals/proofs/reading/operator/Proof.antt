@@ -1,5 +1,5 @@
 use Rattle.literals.proofs.Finding.{no-holder, as-holder}
-use mathlib.Core.Path.{_≡_, refl, sym, ap, _∙_}
+use mathlib.Core.Path.{sym, _∙_}
 use borrow.Author.Needs.{needs}
 use Rattle.literals.proofs.reading.operator.Statement.{statement}
 use Rattle.literals.proofs.reading.operator.Tie as tie

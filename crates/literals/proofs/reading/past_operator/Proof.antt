@@ -1,6 +1,6 @@
 use Rattle.spans.proofs.SpanTurns.{none-noted}
 use Rattle.literals.proofs.Finding.{no-holder}
-use mathlib.Core.Path.{_≡_, refl, sym, ap, _∙_}
+use mathlib.Core.Path.{sym, _∙_}
 use borrow.Author.Needs.{needs}
 use Rattle.literals.proofs.reading.past_operator.Statement.{statement}
 use Rattle.literals.proofs.reading.past_operator.Tie as tie

@@ -1,10 +1,9 @@
-use Prim.Native.Nat.{_+_}
 use borrow.Author.Tests.{not-true}
 use Rattle.tokens.specs.declared.Piece.the-variants.{Data}
 use Rattle.tokens.proofs.Pieces.{Inside, inside}
 use Rattle.passing.proofs.Knowing.{extends-one, extends-more, extends-broken, extends-missing}
 use lib.ListN.{length}
-use mathlib.Core.Path.{_≡_, refl, sym, ap, _∙_}
+use mathlib.Core.Path.{refl, sym, _∙_}
 use native.Mathlib.Omega.{arith}
 use borrow.Author.Needs.{needs}
 use Rattle.passing.proofs.known.extent.Statement.{statement}

@@ -1,9 +1,8 @@
 use Rattle.tokens.specs.Token.{tokenAt, tokenOf}
-use Prim.Native.Nat.{_+_, _≤_}
+use Prim.Native.Nat.{_+_}
 use borrow.Author.Tests.{le-ltb, lt-ltb}
 use Rattle.passing.proofs.Knowing.{stands, number-pair, operator-pair}
 use lib.ListN.{length, getD}
-use mathlib.Core.Path.{_≡_, refl, sym, ap, _∙_}
 use native.Mathlib.Omega.{arith}
 use borrow.Author.Needs.{needs}
 use Rattle.passing.proofs.known.form.Statement.{statement}

@@ -1,8 +1,4 @@
 use Rattle.passing.proofs.Knowing.{ends-there, past-number, past-operator, shown-sequence, shown-cut}
-use Rattle.tokens.specs.Passing.{passOf, Shows}
-use lib.ListN.{length}
-use mathlib.Core.Path.{_≡_, refl, sym, ap, _∙_}
-use native.Mathlib.Omega.{arith}
 use borrow.Author.Needs.{needs}
 use Rattle.passing.proofs.known.past.Statement.{statement}
 use Rattle.passing.proofs.known.past.Tie as tie

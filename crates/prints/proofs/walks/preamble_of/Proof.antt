@@ -1,5 +1,4 @@
--- `walks::preamble_of` meets its contract. Assumes nothing.
-use Rattle.prints.proofs.Paging.{preamble-of-part}
+use Rattle.prints.proofs.Paging.{whole-part, preamble-of-part}
 use borrow.Author.Needs.{needs}
 use Rattle.prints.proofs.walks.preamble_of.Statement.{statement}
 use Rattle.prints.proofs.walks.preamble_of.Tie as tie
@@ -14,6 +13,6 @@ preamble-of-spec =
     (λ c. search needs)
     (λ c. search needs)
     (λ c. search needs)
-    (λ c κs. search needs)
+    (λ c κs. (c .before .before .before .before .before .pre .0, search needs, search needs, c .before .before .before .before .before .pre .4, whole-part _ _ _ (c .before .before .before .before .before .pre .2) (c .before .before .before .before .before .pre .5)))
     (λ c. search needs)
     (λ c. preamble-of-part _ _ _ _ _ _ (c .before .before .before .before .before .before .before .before .pre .2) (c .before .before .preamble .ensures)))
