@@ -32,7 +32,7 @@ use Rattle.tokens.specs.Passing.{Shows, passOf}
 use Rattle.tokens.proofs.Theorems.{token-end}
 use Rattle.tokens.proofs.Pieces.{joined-data, joined-missing}
 use Rattle.tokens.proofs.Summaries.{summary-length, part-length}
-use Rattle.tokens.proofs.Turns.{turn}
+use Rattle.tokens.proofs.Copying.{joined-one}
 use Rattle.passing.specs.declared.Extent.{Extent}
 use Rattle.passing.specs.Known.{Reads, Extends}
 
@@ -163,8 +163,7 @@ module _ (s : List ℕ) (at f n : ℕ) (p : pieceAt s at ≡ Data f n) where
   -- in one piece
   pub extends-one : f + n ≤ length s → continued (getD s (f + n) 0) ≡ false → (x : Extent) → x .len ≡ n → x .next ≡ f + n → Extends s at x
   extends-one i h x a b d next e =
-      let t : joinedAt s at ≡ whole (slice f (f + n) s) (f + n) = joined-data s at f n p ∙ turn (length s) s (f + n) (slice f (f + n) s) (omega arith) ∙ rw h in
-      let g = whole-same _ d (f + n) next (sym t ∙ e) in
+      let g = whole-same _ d (f + n) next (sym (joined-one s at f n p h) ∙ e) in
       (a ∙ rw (g .0) at (sym (part-length s f n i)), b ∙ g .1)
 
   -- gathered

@@ -49,6 +49,16 @@ pub fn is_continued(b: u8) -> bool
     low5(b) == 7
 }
 
+// A continued token stands at `at`.
+pub fn is_continued_at(s: &[u8], at: usize) -> bool
+    ensures { λ r. ⌜ r ≡ continued (getD (now (s .entry)) at 0) ⌝ }
+{
+    if s.len() <= at {
+        return false;
+    }
+    is_continued(s[at])
+}
+
 // The data of the continued token at `at`, if one is there and the input has them.
 pub fn next_piece(s: &[u8], at: usize) -> Piece
     requires { ⌜ at < length (now s) ⌝ }
@@ -194,13 +204,18 @@ pub fn data_size(s: &[u8], at: usize) -> usize
         Piece::Missing => {
             return 0;
         }
-        Piece::Data { start, len } => match gather(31, s, start, len) {
-            Gathered::Broken { place } => {
-                return 0;
+        Piece::Data { start, len } => {
+            if !is_continued_at(s, start + len) {
+                return len;
             }
-            Gathered::Whole { sum, next } => {
-                return sum.len;
+            match gather(31, s, start, len) {
+                Gathered::Broken { place } => {
+                    return 0;
+                }
+                Gathered::Whole { sum, next } => {
+                    return sum.len;
+                }
             }
-        },
+        }
     }
 }

@@ -1,14 +1,12 @@
-// A sequence in a single piece, judged where it lies: nothing of it is kept. In order: whether a piece is followed by another; each
-// type's data; the token.
+// A sequence in a single piece, judged where it lies: nothing of it is kept. In order: each type's data; the token.
 ghost use mathlib.Core.Path.{_≡_};
 ghost use Prim.Native.Nat.{_+_, _/_, _≤_};
-ghost use lib.ListN.{length, getD};
+ghost use lib.ListN.{length};
 ghost use lib.Seq.{slice};
 ghost use lib.IntN.{pos};
 ghost use Rattle.numbers.specs.Fraction.{ratioOf};
 ghost use Rattle.tokens.specs.declared.Rule.the-variants.{Named};
 ghost use Rattle.tokens.specs.Text.{isName};
-ghost use Rattle.tokens.specs.Joined.{continued};
 ghost use Rattle.tokens.specs.Token.{numberRead, integerSize, rationalSize, integerIn, rationalIn, ruled, judged};
 use crate::judging::bad_data;
 use crate::judging::identifier_read;
@@ -16,7 +14,6 @@ use crate::judging::integer;
 use crate::judging::rational;
 use crate::judging::string_read;
 use crate::judging::unruled;
-use pieces::sequences::is_continued;
 use pieces::text::all_obey;
 use pieces::text::is_letter;
 use pieces::values::integer_size;
@@ -25,16 +22,6 @@ use pieces::values::rational_size;
 use pieces::values::value_after;
 use tokens::Read;
 use tokens::Rule;
-
-// A continued token stands at `at`.
-pub fn is_continued_at(s: &[u8], at: usize) -> bool
-    ensures { λ r. ⌜ r ≡ continued (getD (now (s .entry)) at 0) ⌝ }
-{
-    if s.len() <= at {
-        return false;
-    }
-    is_continued(s[at])
-}
 
 // An identifier: the first byte is a letter.
 pub fn is_name(s: &[u8], start: usize, len: usize) -> bool

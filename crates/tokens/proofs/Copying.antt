@@ -189,6 +189,15 @@ unfolding gatheredOf dataOf
 none-cut t (whole d n) place e = let z : _≡_ {A = ℕ} 0 1 = cc in absurd (omega arith)
 none-cut t (cutAt p) place e = refl
 
+-- in one piece
+module _ (s : List ℕ) (at f n : ℕ) (p : pieceAt s at ≡ Data f n) (h : continued (getD s (f + n) 0) ≡ false) where
+  pub joined-one : joinedAt s at ≡ whole (slice f (f + n) s) (f + n)
+  joined-one = joined-data s at f n p ∙ turn (length s) s (f + n) (slice f (f + n) s) (omega arith) ∙ rw h
+
+  pub size-one : f + n ≤ length s → n ≡ length (dataOf (joinedAt s at))
+  unfolding dataOf
+  size-one i = rw joined-one (sym (part-length s f n i))
+
 module _ (s : List ℕ) (at f n t : ℕ) (r : Gathered) (p : pieceAt s at ≡ Data f n) (e : r ≡ gatheredOf t (joinedFrom (length s) s (f + n) (slice f (f + n) s))) where
   pub size-whole : {g : Summary} {next : ℕ} → r ≡ Whole g next → g .len ≡ length (dataOf (joinedAt s at))
   size-whole {g} {next} h = rw (joined-data s at f n p) (size-of t _ g next (sym e ∙ h))

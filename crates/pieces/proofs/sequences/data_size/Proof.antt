@@ -1,10 +1,10 @@
--- `sequences::data_size` meets its contract. Assumes nothing.
-use borrow.Author.Needs.{needs}
-use mathlib.Core.Path.{sym, _∙_, subst}
-use lib.ListN.{length}
+use borrow.Author.Tests.{not-true}
+use Rattle.tokens.proofs.Copying.{none-past, none-missing, size-one, size-whole, size-cut}
 use Rattle.tokens.proofs.Pieces.{Inside, inside}
-use Rattle.tokens.proofs.Copying.{none-past, none-missing, size-whole, size-cut}
+use lib.ListN.{length}
+use mathlib.Core.Path.{sym, subst, _∙_}
 use native.Mathlib.Omega.{arith}
+use borrow.Author.Needs.{needs}
 use Rattle.pieces.proofs.sequences.data_size.Statement.{statement}
 use Rattle.pieces.proofs.sequences.data_size.Tie as tie
 
@@ -17,8 +17,11 @@ data-size-spec =
     (λ c. search needs)
     (λ c. none-missing _ _ (sym (c .before .before .piece-at .ensures) ∙ c .enum-told .given .1))
     (λ c. search needs)
-    (λ c κs. subst (Inside (length (c .before .before .before .before .before .before .args .s .now)) (c .before .before .before .before .before .before .args .at)) (sym (c .before .before .before .piece-at .ensures) ∙ c .before .start .given .1) (inside (c .before .before .before .before .before .before .args .s .now) (c .before .before .before .before .before .before .args .at)) .1)
+    (λ c. omega (arith, (subst (Inside (length (c .before .before .before .before .before .before .args .s .now)) (c .before .before .before .before .before .before .args .at)) (sym (c .before .before .before .piece-at .ensures) ∙ c .before .start .given .1) (inside (c .before .before .before .before .before .before .args .s .now) (c .before .before .before .before .before .before .args .at)) .1), (c .before .before .before .before .before .before .good)))
+    (λ c κs. search needs)
+    (λ c. size-one _ _ _ _ (sym (c .before .before .before .before .before .piece-at .ensures) ∙ c .before .before .before .start .given .1) (sym (c .before .is-continued-at .ensures) ∙ not-true _ (c .if2 .taken)) (subst (Inside (length (c .before .before .before .before .before .before .before .before .args .s .now)) (c .before .before .before .before .before .before .before .before .args .at)) (sym (c .before .before .before .before .before .piece-at .ensures) ∙ c .before .before .before .start .given .1) (inside (c .before .before .before .before .before .before .before .before .args .s .now) (c .before .before .before .before .before .before .before .before .args .at)) .1))
+    (λ c κs. (subst (Inside (length (c .before .before .before .before .before .before .before .before .args .s .now)) (c .before .before .before .before .before .before .before .before .args .at)) (sym (c .before .before .before .before .before .piece-at .ensures) ∙ c .before .before .before .start .given .1) (inside (c .before .before .before .before .before .before .before .before .args .s .now) (c .before .before .before .before .before .before .before .before .args .at)) .1))
     (λ c. search needs)
-    (λ c. size-cut _ _ _ _ 31 _ (sym (c .before .before .before .before .before .before .before .piece-at .ensures) ∙ c .before .before .before .before .before .start .given .1) (c .before .before .before .gather .ensures .0) (c .before .place .given .1))
+    (λ c. size-cut _ _ _ _ 31 _ (sym (c .before .before .before .before .before .before .before .before .before .piece-at .ensures) ∙ c .before .before .before .before .before .before .before .start .given .1) (c .before .before .before .gather .ensures .0) (c .before .place .given .1))
     (λ c. search needs)
-    (λ c. size-whole _ _ _ _ 31 _ (sym (c .before .before .before .before .before .before .before .piece-at .ensures) ∙ c .before .before .before .before .before .start .given .1) (c .before .before .before .gather .ensures .0) (c .before .sum .given .1)))
+    (λ c. size-whole _ _ _ _ 31 _ (sym (c .before .before .before .before .before .before .before .before .before .piece-at .ensures) ∙ c .before .before .before .before .before .before .before .start .given .1) (c .before .before .before .gather .ensures .0) (c .before .sum .given .1)))

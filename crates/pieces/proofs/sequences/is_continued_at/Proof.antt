@@ -1,9 +1,9 @@
--- `single::is_continued_at` meets its contract: past the end nothing continues. Assumes nothing.
+-- `sequences::is_continued_at` meets its contract: past the end nothing continues. Assumes nothing.
 use Rattle.tokens.proofs.Turns.{at-end}
 use mathlib.Core.Path.{sym}
 use borrow.Author.Needs.{needs}
-use Rattle.reader.proofs.single.is_continued_at.Statement.{statement}
-use Rattle.reader.proofs.single.is_continued_at.Tie as tie
+use Rattle.pieces.proofs.sequences.is_continued_at.Statement.{statement}
+use Rattle.pieces.proofs.sequences.is_continued_at.Tie as tie
 
 pub is-continued-at-spec : {M : Type 1} → statement M
 is-continued-at-spec =
