@@ -47,6 +47,7 @@ use Rattle.sprints.specs.Swift.{origin, ending, ahead, lifted, Left, Rowed}
 use Rattle.sprints.proofs.Ahead.{moved-same, execute-free, begun-is, ended-ahead, settle-ahead, due-ahead, step-ahead}
 use Rattle.sprints.proofs.Swiftly.{known, op-role, by-number, not-ended, run-last, none-run, good-as}
 use Rattle.rides.specs.declared.Further.{Further}
+use Rattle.rides.specs.declared.Seat.{Seat}
 use Rattle.rides.specs.Rides.{Paced, Alighted, Led, Goes}
 use Rattle.rides.proofs.Holding.{over-flat, over-is, over-role, if-role}
 
@@ -172,16 +173,49 @@ over-some n (inr e) z = omega arith
 pub next-inside : (b : List ℕ) (at n next : ℕ) → tokenAt b at ≡ read.Operator n next → next ≤ length b
 next-inside b at n next e = (rw e at (token-inside b at)) .1
 
-pub rowed-held : {b w w₁ : List ℕ} {at most : ℕ} {t : Reach} (r h : Registers) → h ≡ held r → ((code : Code) (n : ℕ) → b ≡ bytesOf code (origin w (h .depth)) → Rowed code b at n most w h w₁ t)
-    → (code : Code) (n : ℕ) → b ≡ bytesOf code (origin w (r .depth)) → Rowed code b at n most w (held r) w₁ t
-rowed-held r h e f = rw e at f
-
 -- the registers after a row
 abbrev pub after : Registers → ℕ → Reach → Bool → Registers
 after r most t k = record { height = t .height; depth = r .depth; used = r .used; steps = r .steps + (most - t .left); errors = r .errors; skipping = r .skipping; ok = k }
 
-module _ (code : Code) (b w w₁ : List ℕ) (r : Registers) (at most : ℕ) (t : Reach) (g : Good w r) (runs : 0 < r .depth) (quiet : r .skipping ≡ false) (few : t .left ≤ most)
-    (ea : at ≡ running (contextsOf (slots w) (r .depth)) .at) (eb : b ≡ bytesOf code (origin w (r .depth))) (o : Rowed code b at (r .steps) most w (held r) w₁ t) where
+-- a row from w to w₁: what the step that ends it starts from
+pub record Rode (code : Code) (b w w₁ : List ℕ) (r : Registers) (at most : ℕ) (t : Reach) : Type 0 where
+  pub good : Good w r
+  pub runs : 0 < r .depth
+  pub quiet : r .skipping ≡ false
+  pub few : t .left ≤ most
+  pub place : at ≡ running (contextsOf (slots w) (r .depth)) .at
+  pub bytes : b ≡ bytesOf code (origin w (r .depth))
+  pub row : Rowed code b at (r .steps) most w (held r) w₁ t
+
+pub rode : {b w w₁ : List ℕ} {most : ℕ} {t : Reach} (pre body : List ℕ) (r h : Registers) (s : Seat) → Good w r → 0 < r .depth → r .skipping ≡ false → h ≡ held r → b ≡ bytesOf (both pre body) (s .origin)
+    → (s .origin ≡ origin w (r .depth)) × (s .at ≡ running (contextsOf (slots w) (r .depth)) .at) × (s .end ≡ ending w (r .depth)) → t .left ≤ most
+    → ((code : Code) (n : ℕ) → b ≡ bytesOf code (origin w (h .depth)) → Rowed code b (s .at) n most w h w₁ t) → Rode (both pre body) b w w₁ r (s .at) most t
+rode pre body r h s g runs quiet eh eb seat few f =
+    let e = eb ∙ ap (bytesOf (both pre body)) (seat .0) in
+    record { good = g; runs = runs; quiet = quiet; few = few; place = seat .1; bytes = e; row = (rw eh at f) (both pre body) (r .steps) e }
+
+module _ {code : Code} {b w w₁ : List ℕ} {r : Registers} {at most : ℕ} {t : Reach} (ρ : Rode code b w w₁ r at most t) where
+  abbrev g : Good w r
+  g = ρ .good
+
+  abbrev runs : 0 < r .depth
+  runs = ρ .runs
+
+  abbrev quiet : r .skipping ≡ false
+  quiet = ρ .quiet
+
+  abbrev few : t .left ≤ most
+  few = ρ .few
+
+  abbrev ea : at ≡ running (contextsOf (slots w) (r .depth)) .at
+  ea = ρ .place
+
+  abbrev eb : b ≡ bytesOf code (origin w (r .depth))
+  eb = ρ .bytes
+
+  abbrev o : Rowed code b at (r .steps) most w (held r) w₁ t
+  o = ρ .row
+
   pub good-row : (k : Bool) → Good w₁ (after r most t k)
   good-row k = record { room = omega (arith, g .room, o .long); stack-fits = o .fits; depth-fits = g .depth-fits; cells-fit = g .cells-fit; errors-fit = omega (arith, g .errors-fit) }
 
@@ -190,7 +224,7 @@ module _ (code : Code) (b w w₁ : List ℕ) (r : Registers) (at most : ℕ) (t 
 
   -- gone on past an operator and the body that it passes over
   module _ (u : Further) (go : Goes b (t .number) (t .next) (t .at) (t .left) u) (token : (t .number ≡ 0 → ⊥) → tokenAt b (t .at) ≡ read.Operator (t .number) (t .next)) where
-    abbrev pub beyond : Reach
+    abbrev beyond : Reach
     beyond = record { height = t .height; left = u .left; at = u .at; failed = false; number = 0; next = u .at }
 
     over-does : u .left < t .left → run (most - u .left) code (ahead at (r .steps) (abs w (held r))) ≡ settle (ahead (solid b (u .at)) (r .steps + (most - u .left)) (abs w₁ (lifted (held r) (t .height))))
@@ -201,7 +235,7 @@ module _ (code : Code) (b w w₁ : List ℕ) (r : Registers) (at most : ℕ) (t 
         let cs = contextsOf (slots w₁) (r .depth - 1) in
         let top : s .contexts ≡ c ∷ cs = contexts-top (slots w₁) (r .depth) runs in
         let here = o .here (over-some (t .number) (p .0)) in
-        let k : most - u .left ≡ suc (most - t .left) = omega (arith, p .1) in
+        let k : most - u .left ≡ suc (most - t .left) = omega (arith, p .1, few) in
         let n : r .steps + suc (most - t .left) ≡ suc (r .steps + (most - t .left)) = omega arith in
         let x : Literal = WithBody (t .number) (solid b (t .next) + 2) (u .at - 2 - (solid b (t .next) + 2)) in
         let found = held-found b (t .at) (t .number) (t .next) (u .at) (token (over-some (t .number) (p .0))) (over-role (t .number) (p .0)) (p .2) in
@@ -211,18 +245,21 @@ module _ (code : Code) (b w w₁ : List ℕ) (r : Registers) (at most : ℕ) (t 
         (execute-free code (solid b (u .at)) (suc (r .steps + (most - t .left))) x s (over-flat code (t .number) _ _ s (p .0)))
         (over-is code (t .number) _ _ s (p .0) ∙ fits-abs w₁ (lifted (held r) (t .height)) (o .fits) (g .depth-fits) (g .cells-fit)))
 
-    pub rowed-beyond : Rowed code b at (r .steps) most w (held r) w₁ beyond
+    rowed-beyond : Rowed code b at (r .steps) most w (held r) w₁ beyond
     rowed-beyond = record {
       fits = o .fits;
       keeps = o .keeps;
       long = o .long;
       stays = o .stays;
       ends = o .ends;
-      idle = λ e. o .idle (omega (arith, go .fewer));
+      idle = λ e. o .idle (omega (arith, go .fewer, few));
       here = λ f. absurd (f refl);
       falls = λ f. not-on f;
       does = λ l. split (u .left) (t .left) over-does (λ h. let z : u .left ≡ t .left = omega (arith, go .fewer) in rw (z, go .stays z) (o .does (omega arith)));
     }
+
+    pub rode-beyond : Rode code b w w₁ r at most beyond
+    rode-beyond = record { good = g; runs = runs; quiet = quiet; few = omega (arith, go .fewer, few); place = ea; bytes = eb; row = rowed-beyond }
 
     pub beyond-fits : u .left < most → (t .left < most → t .at ≤ length b) → u .at ≤ length b
     beyond-fits h f =
@@ -256,7 +293,7 @@ module _ (code : Code) (b w w₁ : List ℕ) (r : Registers) (at most : ℕ) (t 
           does = rw k one-more;
           keeps = p .keeps ∙ o .keeps;
           since = omega (arith, p .counted);
-          within = omega (arith, p .counted);
+          within = omega (arith, p .counted, few);
           some = λ _. omega (arith, p .counted);
           more = λ h. not-on h;
           runs = λ h. not-on h;
@@ -281,9 +318,9 @@ module _ (code : Code) (b w w₁ : List ℕ) (r : Registers) (at most : ℕ) (t 
         does = rw n off;
         keeps = a .keeps ∙ o .keeps;
         since = omega (arith, a .counted);
-        within = omega (arith, a .counted);
+        within = omega (arith, a .counted, few);
         some = λ _. omega (arith, a .counted);
-        more = λ h. let l = i h in omega (arith, a .counted, l .1);
+        more = λ h. let l = i h in omega (arith, a .counted, l .1, few);
         runs = λ h. a .runs (i h .0);
         executes = λ h. rw (a .on (i h .0));
       })
