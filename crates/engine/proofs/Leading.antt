@@ -13,7 +13,7 @@ use Rattle.machine.specs.Contexts.{fault, settle}
 use Rattle.machine.specs.Engine.{place, does}
 use Rattle.machine.specs.Step.{run}
 use Rattle.machine.proofs.Legible.{Legible, legible-run, going-on, going-literal}
-use Rattle.literals.specs.Dues.{Stands}
+use Rattle.literals.specs.Dues.{LiteralThere}
 use Rattle.names.specs.Names.{both}
 use Rattle.state.specs.declared.Place.{Place}
 use Rattle.state.specs.declared.Registers.{Registers}
@@ -33,7 +33,7 @@ bytes-fit pre body b {at} {w} {r} ready short = rw (ready .bytes) (bytes-short p
 
 -- the literal that is due stands where the running body goes on
 pub stands-now : (w : List ℕ) (r : Registers) (pre body b : List ℕ) (c : Place) (at : ℕ) → Legible (both pre body) (abs w r) → 0 < r .depth
-    → (c .origin ≡ running (contextsOf (slots w) (r .depth)) .origin) × (c .start ≡ running (contextsOf (slots w) (r .depth)) .at) → b ≡ bytesOf (both pre body) (c .origin) → at ≡ c .start → Stands b at
+    → (c .origin ≡ running (contextsOf (slots w) (r .depth)) .origin) × (c .start ≡ running (contextsOf (slots w) (r .depth)) .at) → b ≡ bytesOf (both pre body) (c .origin) → at ≡ c .start → LiteralThere b at
 stands-now w r pre body b c at h runs here eb ea =
     rw (eb, here .0, ea, here .1) (going-literal (going-on (both pre body) (abs w r) h (not-ended (slots w) (r .depth) runs)))
 

@@ -8,7 +8,7 @@ ghost use Rattle.machine.specs.Step.{execute};
 ghost use Rattle.machine.proofs.Legible.{Legible};
 ghost use Rattle.names.specs.Names.{both};
 ghost use Rattle.state.specs.Layout.{abs, Good, Busy, Tried};
-ghost use Rattle.literals.specs.Dues.{Stands};
+ghost use Rattle.literals.specs.Dues.{LiteralThere};
 ghost use Rattle.origins.specs.Bodies.{Short, Noting};
 ghost use Rattle.engine.specs.Steps.{SizedLiteral, Stepped, Ran, Onward};
 ghost use Rattle.sprints.specs.Swift.{Executes, Ready, Attempted};
@@ -106,7 +106,7 @@ fn literal<'a>(
     o: u32,
     at: usize,
 ) -> Registers
-    requires { ⌜ Ready (both (now pre) (now body)) (bytesOf (both (now pre) (now body)) o) at (now w) r × Short (now pre) (now body) × Noting (now pre) (now body) (now early) (now notes) × Stands (bytesOf (both (now pre) (now body)) o) at ⌝ }
+    requires { ⌜ Ready (both (now pre) (now body)) (bytesOf (both (now pre) (now body)) o) at (now w) r × Short (now pre) (now body) × Noting (now pre) (now body) (now early) (now notes) × LiteralThere (bytesOf (both (now pre) (now body)) o) at ⌝ }
     ensures { λ q. ⌜ Attempted (both (now (pre .entry)) (now (body .entry))) (now (w .entry)) r (now (w .exit)) q × Noting (now (pre .entry)) (now (body .entry)) (now (early .exit)) (now (notes .exit)) ⌝ }
 {
     let d = origins::due_of(pre, body, early, notes, o, at);

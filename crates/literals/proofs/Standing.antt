@@ -17,9 +17,9 @@ use Rattle.machine.specs.Literal.{Found, holdingBy, holdingAt, operatorBy, foun
 use Rattle.machine.specs.Step.{isUnmark0}
 use Rattle.machine.proofs.Comments.{NoComment, Comments, none-at, one-at, never, comments-are}
 use Rattle.machine.proofs.Readable.{IsLiteral, a-number, an-identifier, a-string, an-operator, a-holder}
-use Rattle.spans.specs.Memo.{Ends}
+use Rattle.spans.specs.Memo.{BodyEnds}
 use Rattle.literals.specs.declared.Ahead.{Ahead}
-use Rattle.literals.specs.Dues.{Stands, Passes, PastOperator}
+use Rattle.literals.specs.Dues.{LiteralThere, Passes, PastOperator}
 use Rattle.nesting.proofs.BodyTurns.{stands-at}
 
 -- ---- places past comments
@@ -40,7 +40,7 @@ body-solid (suc k) b at = rw (← (solid-again b at))
 pub solid-body : (b : List ℕ) (at q : ℕ) → q ≡ solid b at → bodyAt mostOpen b q ≡ bodyAt mostOpen b at
 solid-body b at q e = rw e (body-solid mostOpen b at)
 
-pub ends-solid : (b : List ℕ) (at q : ℕ) → q ≡ solid b at → Ends b at → Ends b q
+pub ends-solid : (b : List ℕ) (at q : ℕ) → q ≡ solid b at → BodyEnds b at → BodyEnds b q
 ends-solid b at q e h = (h .0, solid-body b at q e ∙ h .1)
 
 -- ---- the literal
@@ -65,7 +65,7 @@ module _ {b : List ℕ} {at : ℕ} where
   stands-solid f (a-holder n inner next e r h) = rw e tt
 
   -- the body of an operator that holds one
-  pub stands-ends : (f : Found) (n next : ℕ) → IsLiteral b at f → tokenAt b at ≡ Operator n next → roleOf n ≡ Holds → Ends b next
+  pub stands-ends : (f : Found) (n next : ℕ) → IsLiteral b at f → tokenAt b at ≡ Operator n next → roleOf n ≡ Holds → BodyEnds b next
   stands-ends f n next (a-number value x e) t r = never (cc)
   stands-ends f n next (an-identifier len x e) t r = never (cc)
   stands-ends f n next (a-string count x e) t r = never (cc)
@@ -81,7 +81,7 @@ module _ {b : List ℕ} {at : ℕ} where
   stands-role f n next (a-holder m inner x e p h) t = let z : m ≡ n = cc in inr (rw z at p)
 
   -- what skipping asks of it
-  pub operator-passes : (n next : ℕ) (a : Ahead) → Stands b at → tokenAt b at ≡ Operator n next → PastOperator b n next (a .next) → a .unmarks ≡ eqb n 192 → Passes (foundAt b at) a
+  pub operator-passes : (n next : ℕ) (a : Ahead) → LiteralThere b at → tokenAt b at ≡ Operator n next → PastOperator b n next (a .next) → a .unmarks ≡ eqb n 192 → Passes (foundAt b at) a
   unfolding foundAt foundBy operatorBy holdingAt holdingBy isUnmark0
   operator-passes n next a h e p u = ⊎-elim plain holds (stands-role _ n next h e)
     where

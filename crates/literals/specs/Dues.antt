@@ -16,8 +16,8 @@ use Rattle.literals.specs.declared.Bare.{Bare}
 use Rattle.literals.specs.declared.Due.{Due}
 
 -- a literal stands at `at`: the bytes have been judged
-abbrev pub Stands : List ℕ → ℕ → Type 0
-Stands b at = IsLiteral b at (foundAt b at)
+abbrev pub LiteralThere : List ℕ → ℕ → Type 0
+LiteralThere b at = IsLiteral b at (foundAt b at)
 
 -- the answer r is the literal f
 pub record Is (f : Found) (r : Due) : Type 0 where

@@ -5,8 +5,8 @@ ghost use lib.ListN.{length, getD};
 ghost use Rattle.machine.specs.Literal.{found, nothingAt, holdingAt, operatorBy, foundAt};
 ghost use Rattle.machine.specs.declared.Role.the-variants.{Holds};
 ghost use Rattle.machine.specs.Skeleton.{roleOf};
-ghost use Rattle.spans.specs.Memo.{Noted, Ends};
-ghost use Rattle.literals.specs.Dues.{Stands, Is, Passes, PastOperator, Tells};
+ghost use Rattle.spans.specs.Memo.{Noted, BodyEnds};
+ghost use Rattle.literals.specs.Dues.{LiteralThere, Is, Passes, PastOperator, Tells};
 use crate::Ahead;
 use crate::Bare;
 use crate::Due;
@@ -36,7 +36,7 @@ fn nothing(b: &[u8]) -> Due
 
 // The operator n with the body that is due from `next` on.
 fn holding(b: &[u8], n: u16, next: usize, memo: &mut [u32]) -> Due
-    requires { ⌜ (length (now b) ≤ 16777215) × Noted (now b) (now memo) × Ends (now b) next ⌝ }
+    requires { ⌜ (length (now b) ≤ 16777215) × Noted (now b) (now memo) × BodyEnds (now b) next ⌝ }
     ensures { λ r. ⌜ Is (holdingAt (now (b .entry)) n next) r × Noted (now (b .entry)) (now (memo .exit)) ⌝ }
 {
     let open = nesting::bodies::past_comments(b, next);
@@ -63,7 +63,7 @@ fn bodiless(b: &[u8], role: Role, n: u16, next: usize) -> Due
 
 // The operator n, which ends at `next`.
 fn operator(b: &[u8], n: u16, next: usize, memo: &mut [u32]) -> Due
-    requires { ⌜ (length (now b) ≤ 16777215) × Noted (now b) (now memo) × (roleOf n ≡ Holds → Ends (now b) next) ⌝ }
+    requires { ⌜ (length (now b) ≤ 16777215) × Noted (now b) (now memo) × (roleOf n ≡ Holds → BodyEnds (now b) next) ⌝ }
     ensures { λ r. ⌜ Is (operatorBy (roleOf n) (now (b .entry)) n next) r × Noted (now (b .entry)) (now (memo .exit)) ⌝ }
 {
     let role = nesting::roles::role_of(n);
@@ -109,7 +109,7 @@ const NAME: u8 = 5;
 
 // A number, a name or a string at `at`. Only numbers are read: of the others it is enough where they end.
 pub fn due_sequence(b: &[u8], at: usize) -> Due
-    requires { ⌜ (length (now b) ≤ 16777215) × ((at < length (now b)) × (192 ≤ getD (now b) at 0)) × Stands (now b) at ⌝ }
+    requires { ⌜ (length (now b) ≤ 16777215) × ((at < length (now b)) × (192 ≤ getD (now b) at 0)) × LiteralThere (now b) at ⌝ }
     ensures { λ r. ⌜ Is (foundAt (now (b .entry)) at) r ⌝ }
 {
     let kind = tokens::bits::low5(b[at]);
@@ -133,7 +133,7 @@ pub fn due_sequence(b: &[u8], at: usize) -> Due
 
 // The literal at `at`. `memo` has notes on where bodies of b end, and is left with more.
 pub fn due(b: &[u8], at: usize, memo: &mut [u32]) -> Due
-    requires { ⌜ (length (now b) ≤ 16777215) × Noted (now b) (now memo) × Stands (now b) at ⌝ }
+    requires { ⌜ (length (now b) ≤ 16777215) × Noted (now b) (now memo) × LiteralThere (now b) at ⌝ }
     ensures { λ r. ⌜ Is (foundAt (now (b .entry)) at) r × Noted (now (b .entry)) (now (memo .exit)) ⌝ }
 {
     match passing::known::form(b, at) {
@@ -177,7 +177,7 @@ pub fn bare_operator(b: &[u8], at: usize) -> Bare
 
 // Past the operator n, which ends at `next`, and the body that it may hold; what is noted of that is not kept.
 fn past_operator(b: &[u8], n: u16, next: usize) -> usize
-    requires { ⌜ (length (now b) ≤ 16777215) × (roleOf n ≡ Holds → Ends (now b) next) ⌝ }
+    requires { ⌜ (length (now b) ≤ 16777215) × (roleOf n ≡ Holds → BodyEnds (now b) next) ⌝ }
     ensures { λ r. ⌜ PastOperator (now (b .entry)) n next r ⌝ }
 {
     match nesting::roles::role_of(n) {
@@ -193,7 +193,7 @@ const UNMARK0: u16 = 192;
 
 // The literal at `at`, for skipping: it is not read but only passed over.
 pub fn ahead(b: &[u8], at: usize) -> Ahead
-    requires { ⌜ (length (now b) ≤ 16777215) × Stands (now b) at ⌝ }
+    requires { ⌜ (length (now b) ≤ 16777215) × LiteralThere (now b) at ⌝ }
     ensures { λ r. ⌜ Passes (foundAt (now (b .entry)) at) r ⌝ }
 {
     match passing::known::form(b, at) {

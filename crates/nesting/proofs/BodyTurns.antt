@@ -29,6 +29,7 @@ use Rattle.tokens.specs.declared.Refusal.{Refusal}
 use Rattle.tokens.specs.declared.Refusal.the-variants.{CutOff, TypeNotRead, BadData, NothingContinued, NotAllowed, TooDeep}
 use Rattle.tokens.specs.Token.{numberRead, integerSize, rationalSize, integerIn, rationalIn, ruled, judged, sequence, tokenOf, tokenAt}
 use Rattle.tokens.proofs.Theorems.{token-end, token-sequence}
+use Rattle.passing.proofs.Knowing.{sequence-shown}
 use Rattle.machine.specs.declared.Role.{Role}
 use Rattle.machine.specs.declared.Role.the-variants as role
 use Rattle.machine.specs.declared.Went.{Went}
@@ -173,9 +174,6 @@ module _ (s : List ℕ) (p : ℕ) (f : Form) where
   pub operator-shown : (n next : ℕ) → f ≡ form.Operator n next → Shows s p f → tokenAt s p ≡ read.Operator n next
   operator-shown n next e h = rw e at h
 
-  pub sequence-shown : f ≡ form.Sequence → Shows s p f → (p < length s) × (192 ≤ getD s p 0)
-  sequence-shown e h = rw e at h
-
   pub cut-shown : f ≡ form.Cut → Shows s p f → tokenAt s p ≡ read.Unread CutOff p
   cut-shown e h = rw e at h
 
@@ -185,7 +183,7 @@ module _ (s : List ℕ) (p : ℕ) (f : Form) where
 
   pub no-operator : f ≡ form.Sequence → Shows s p f → NoOperator (tokenAt s p)
   no-operator e h =
-      let g = sequence-shown e h in
+      let g = sequence-shown s p f e h in
       rw (token-sequence s p (g .0) (g .1)) (sequence-so NoOperator p (λ _ _. tt) (λ _ _. tt) (λ _ _. tt) (λ _ _. tt) (getD s p 0 % 32) (joinedAt s p) (λ _ _. tt))
 
   -- the literal there, in which m bodies may be open

@@ -21,7 +21,7 @@ use Rattle.machine.proofs.Inside.{EndsIn, token-inside, WentIn, went-lower, bod
 use Rattle.machine.proofs.Comments.{comments-are}
 use Rattle.literals.specs.declared.Ahead.{Ahead}
 use Rattle.literals.specs.declared.Due.{Due}
-use Rattle.literals.specs.Dues.{Stands, Is, Passes}
+use Rattle.literals.specs.Dues.{LiteralThere, Is, Passes}
 use Rattle.literals.proofs.Passing.{comments-end, solid-inside}
 use Rattle.names.specs.Names.{both}
 use Rattle.tokens.proofs.Theorems.{token-end}
@@ -96,10 +96,10 @@ ahead-fits b at a l p = omega (arith, p .next, next-inside b at)
 
 -- ---- a literal by the notes
 
-pub stands-early : (pre body : List ℕ) (o at : ℕ) → o ≡ 0 → Stands (bytesOf (both pre body) o) at → Stands pre at
+pub stands-early : (pre body : List ℕ) (o at : ℕ) → o ≡ 0 → LiteralThere (bytesOf (both pre body) o) at → LiteralThere pre at
 stands-early pre body o at e h = rw e at h
 
-pub stands-own : (pre body : List ℕ) (o at : ℕ) → o ≡ 1 → Stands (bytesOf (both pre body) o) at → Stands body at
+pub stands-own : (pre body : List ℕ) (o at : ℕ) → o ≡ 1 → LiteralThere (bytesOf (both pre body) o) at → LiteralThere body at
 stands-own pre body o at e h = rw e at h
 
 module _ {d : Due} {t u : List ℕ} (pre body : List ℕ) (o at : ℕ) (g : Noting pre body t u) where

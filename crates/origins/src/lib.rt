@@ -2,7 +2,7 @@
 ghost use mathlib.Core.Path.{_≡_};
 ghost use Rattle.machine.specs.Literal.{bytesOf, foundAt};
 ghost use Rattle.names.specs.Names.{both};
-ghost use Rattle.literals.specs.Dues.{Stands, Is};
+ghost use Rattle.literals.specs.Dues.{LiteralThere, Is};
 ghost use Rattle.origins.specs.Bodies.{Short, Noting};
 use literals::Due;
 
@@ -29,7 +29,7 @@ pub fn due_of(
     origin: u32,
     at: usize,
 ) -> Due
-    requires { ⌜ Short (now pre) (now body) × Noting (now pre) (now body) (now early) (now notes) × Stands (bytesOf (both (now pre) (now body)) origin) at ⌝ }
+    requires { ⌜ Short (now pre) (now body) × Noting (now pre) (now body) (now early) (now notes) × LiteralThere (bytesOf (both (now pre) (now body)) origin) at ⌝ }
     ensures { λ r. ⌜ Is (foundAt (bytesOf (both (now (pre .entry)) (now (body .entry))) origin) at) r × Noting (now (pre .entry)) (now (body .entry)) (now (early .exit)) (now (notes .exit)) ⌝ }
 {
     if origin == 0 {

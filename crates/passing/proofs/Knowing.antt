@@ -57,7 +57,11 @@ module _ (s : List ℕ) (at : ℕ) (h : Reads (tokenAt s at)) where
   pub operator-pair : 160 ≤ getD s at 0 → getD s at 0 < 192 → at + 1 < length s
   operator-pair a b = split (at + 1) (length s) (λ l. l) (λ g. absurd (rw (cut-operator a b g) at h))
 
--- past what its form shows
+-- what its form shows
+pub sequence-shown : (s : List ℕ) (at : ℕ) (f : Form) → f ≡ form.Sequence → Shows s at f → (at < length s) × (192 ≤ getD s at 0)
+sequence-shown s at f e h = rw e at h
+
+-- past it
 module _ (s : List ℕ) (at : ℕ) (f : Form) (h : Shows s at f) where
   pub past-number : (raw next : ℕ) → f ≡ form.Number raw next → passOf (tokenAt s at) ≡ Over next
   unfolding passOf
@@ -66,9 +70,6 @@ module _ (s : List ℕ) (at : ℕ) (f : Form) (h : Shows s at f) where
   pub past-operator : (n next : ℕ) → f ≡ form.Operator n next → passOf (tokenAt s at) ≡ Over next
   unfolding passOf
   past-operator n next e = rw (rw e at h)
-
-  pub shown-sequence : f ≡ form.Sequence → (at < length s) × (192 ≤ getD s at 0)
-  shown-sequence e = rw e at h
 
   pub shown-cut : f ≡ form.Cut → Reads (tokenAt s at) → ⊥
   shown-cut e r = rw (rw e at h) at r

@@ -34,7 +34,7 @@ use Rattle.state.specs.Layout.{contextsOf, contextAt, contextIn, goesTo, aside,
 use Rattle.state.proofs.Parts.{contexts-top, contexts-at}
 use Rattle.state.proofs.Ending.{not-on}
 use Rattle.state.proofs.Trying.{fits-abs}
-use Rattle.spans.specs.Memo.{Ends}
+use Rattle.spans.specs.Memo.{BodyEnds}
 use Rattle.spans.proofs.SpanTurns.{end-fits}
 use Rattle.names.specs.Names.{both}
 use Rattle.origins.proofs.ByOrigin.{nothing-there}
@@ -43,12 +43,12 @@ use Rattle.nesting.proofs.BodyTurns.{stands-at}
 use Rattle.numbers.proofs.Cond.{split}
 use Rattle.contexts.proofs.Entering.{begin-done}
 use Rattle.sprints.specs.declared.Reach.{Reach}
-use Rattle.sprints.specs.Swift.{origin, ending, ahead, lifted, Left, Rowed}
+use Rattle.sprints.specs.Swift.{origin, ending, ahead, lifted, LiteralsLeft, Rowed}
 use Rattle.sprints.proofs.Ahead.{moved-same, execute-free, begun-is, ended-ahead, settle-ahead, due-ahead, step-ahead}
 use Rattle.sprints.proofs.Swiftly.{known, op-role, by-number, not-ended, run-last, none-run, good-as}
 use Rattle.rides.specs.declared.Further.{Further}
 use Rattle.rides.specs.declared.Seat.{Seat}
-use Rattle.rides.specs.Rides.{Paced, Alighted, Led, Goes}
+use Rattle.rides.specs.Rides.{Paced, Alighted, Led, PastHeld}
 use Rattle.rides.proofs.Holding.{over-flat, over-is, over-role, if-role}
 
 -- ---- the running body
@@ -70,7 +70,7 @@ seat-is w depth c at end h e ea ee =
 
 -- the literals that are left of it
 pub left-there : (code : Code) (w : List ℕ) (r : Registers) (b : List ℕ) (at end : ℕ) → Legible code (abs w r) → 0 < r .depth → b ≡ bytesOf code (origin w (r .depth)) → at ≡ running (contextsOf (slots w) (r .depth)) .at
-    → end ≡ ending w (r .depth) → Left b at end
+    → end ≡ ending w (r .depth) → LiteralsLeft b at end
 left-there code w r b at end h runs eb ea ee =
     let g = going-on code (abs w r) h (not-ended (slots w) (r .depth) runs) in
     rw (eb, ea, ee) (g .before, rw (← (stands-at _ _ (stands-solid _ (going-literal g)))) (g .readable))
@@ -153,16 +153,16 @@ pub if-found : (b : List ℕ) (at n next brace end : ℕ) → tokenAt b at ≡ r
 if-found b at n next brace end e z q h = rw (q, ← z) (held-found b at n next end e (if-role n z) (sym (solid-body b next brace q) ∙ h))
 
 -- of the same bytes
-pub goes-as : {b c : List ℕ} {n next at left : ℕ} {u : Further} → b ≡ c → Goes c n next at left u → Goes b n next at left u
+pub goes-as : {b c : List ℕ} {n next at left : ℕ} {u : Further} → b ≡ c → PastHeld c n next at left u → PastHeld b n next at left u
 goes-as e h = rw e h
 
 pub body-as : {b c : List ℕ} {end : ℕ} (at : ℕ) → b ≡ c → bodyAt mostOpen c at ≡ Past end → bodyAt mostOpen b at ≡ Past end
 body-as at e h = rw e h
 
 -- where there are no bytes, no body ends
-pub no-body : (pre body : List ℕ) (o next : ℕ) → (o ≡ 0 → ⊥) → (o ≡ 1 → ⊥) → Ends (bytesOf (both pre body) o) next → ⊥
+pub no-body : (pre body : List ℕ) (o next : ℕ) → (o ≡ 0 → ⊥) → (o ≡ 1 → ⊥) → BodyEnds (bytesOf (both pre body) o) next → ⊥
 no-body pre body o next f g e =
-    let h : Ends [] next = rw (← (nothing-there pre body o f g)) at e in
+    let h : BodyEnds [] next = rw (← (nothing-there pre body o f g)) at e in
     let k = end-fits [] next (h .0) (h .1) in
     omega (arith, k .0)
 
@@ -223,7 +223,7 @@ module _ {code : Code} {b w w₁ : List ℕ} {r : Registers} {at most : ℕ} {t 
   bytes-row = rw (o .stays) eb
 
   -- gone on past an operator and the body that it passes over
-  module _ (u : Further) (go : Goes b (t .number) (t .next) (t .at) (t .left) u) (token : (t .number ≡ 0 → ⊥) → tokenAt b (t .at) ≡ read.Operator (t .number) (t .next)) where
+  module _ (u : Further) (go : PastHeld b (t .number) (t .next) (t .at) (t .left) u) (token : (t .number ≡ 0 → ⊥) → tokenAt b (t .at) ≡ read.Operator (t .number) (t .next)) where
     abbrev beyond : Reach
     beyond = record { height = t .height; left = u .left; at = u .at; failed = false; number = 0; next = u .at }
 

@@ -45,7 +45,7 @@ pub record Led (code : Code) (most : ℕ) (w : List ℕ) (r : Registers) (w′ :
   pub executes : r′ .ok ≡ true → Executes code (abs w′ r′)
 
 -- a row of the bytes b that has come to `at`, with so many steps left, gone on past the operator there and the body that it passes over, or not
-pub record Goes (b : List ℕ) (number next at left : ℕ) (u : Further) : Type 0 where
+pub record PastHeld (b : List ℕ) (number next at left : ℕ) (u : Further) : Type 0 where
   pub fewer : u .left ≤ left
   pub stays : u .left ≡ left → u .at ≡ at
   pub passes : u .left < left → OneOf (110 ∷ 240 ∷ []) number × (u .left + 1 ≡ left) × (bodyAt mostOpen b next ≡ Past (u .at))

@@ -20,10 +20,10 @@ ghost use Rattle.machine.specs.Step.{execute, begun};
 ghost use Rattle.machine.proofs.Legible.{Legible};
 ghost use Rattle.names.specs.Names.{both};
 ghost use Rattle.state.specs.Layout.{contextsOf, abs, Good, Busy, Tried};
-ghost use Rattle.spans.specs.Memo.{Ends};
+ghost use Rattle.spans.specs.Memo.{BodyEnds};
 ghost use Rattle.origins.specs.Bodies.{Short, Noting};
 ghost use Rattle.sprints.specs.Swift.{origin, ending};
-ghost use Rattle.rides.specs.Rides.{Paced, Alighted, Led, Goes};
+ghost use Rattle.rides.specs.Rides.{Paced, Alighted, Led, PastHeld};
 use machine::Value;
 use operands::Card;
 use state::Registers;
@@ -168,7 +168,7 @@ fn span_end(
     origin: u32,
     next: usize,
 ) -> usize
-    requires { ⌜ Short (now pre) (now body) × Noting (now pre) (now body) (now early) (now notes) × Ends (bytesOf (both (now pre) (now body)) origin) next ⌝ }
+    requires { ⌜ Short (now pre) (now body) × Noting (now pre) (now body) (now early) (now notes) × BodyEnds (bytesOf (both (now pre) (now body)) origin) next ⌝ }
     ensures { λ r. ⌜ (bodyAt mostOpen (bytesOf (both (now (pre .entry)) (now (body .entry))) origin) next ≡ Past r) × Noting (now (pre .entry)) (now (body .entry)) (now (early .exit)) (now (notes .exit)) ⌝ }
 {
     if origin == 0 {
@@ -208,8 +208,8 @@ fn past_held(
     at: usize,
     left: usize,
 ) -> Further
-    requires { ⌜ Short (now pre) (now body) × Noting (now pre) (now body) (now early) (now notes) × (OneOf (110 ∷ 240 ∷ []) number → (0 < left) × Ends (bytesOf (both (now pre) (now body)) origin) next) ⌝ }
-    ensures { λ u. ⌜ Goes (bytesOf (both (now (pre .entry)) (now (body .entry))) origin) number next at left u × Noting (now (pre .entry)) (now (body .entry)) (now (early .exit)) (now (notes .exit)) ⌝ }
+    requires { ⌜ Short (now pre) (now body) × Noting (now pre) (now body) (now early) (now notes) × (OneOf (110 ∷ 240 ∷ []) number → (0 < left) × BodyEnds (bytesOf (both (now pre) (now body)) origin) next) ⌝ }
+    ensures { λ u. ⌜ PastHeld (bytesOf (both (now (pre .entry)) (now (body .entry))) origin) number next at left u × Noting (now (pre .entry)) (now (body .entry)) (now (early .exit)) (now (notes .exit)) ⌝ }
 {
     if passes_over(number) {
         return Further {

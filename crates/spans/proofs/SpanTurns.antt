@@ -28,14 +28,16 @@ use Rattle.machine.proofs.Comments.{NoComment, one-at, solid-is, comments-are}
 use Rattle.machine.proofs.TokenLocal.{judged-all}
 use Rattle.machine.proofs.Bodies.{body-later, body-ends}
 use Rattle.machine.proofs.BodyLocal.{body-more}
-use Rattle.spans.specs.Memo.{Noted, withNote, Seen, Ends}
+use Rattle.spans.specs.Memo.{Noted, withNote, Seen, BodyEnds}
 use Rattle.nesting.proofs.BodyTurns.{turn, entered, due-there, stands-at}
 use borrow.Author.Tests.{lt-ltb, ne-eqb, ltb-true, ltb-false}
 use Rattle.tokens.specs.declared.Read.the-variants as read
 use Rattle.tokens.specs.Joined.{Joined, whole, cutAt, joinedAt}
 use Rattle.tokens.specs.Token.{sequence, tokenAt, tokenOf}
 use Rattle.tokens.specs.Passing.{passOf}
+use Rattle.tokens.specs.declared.Form.the-variants as form
 use Rattle.passing.specs.Known.{Reads}
+use Rattle.passing.proofs.Knowing.{past-operator}
 
 -- ---- room for literals
 
@@ -245,7 +247,7 @@ module _ {s starts : List ℕ} {at count : ℕ} where
   few-where p (before-body i) = (i .1 .few, i .1 .long)
 
   -- the body is known to end
-  module _ (ends : Ends s at) where
+  module _ (ends : BodyEnds s at) where
     pending-goes : {w : ℕ → Went} (refusal : Refusal) (place : ℕ) → Pending s starts at count w → 0 < count → ((n : ℕ) → w n ≡ Stop refusal place) → ⊥
     pending-goes refusal place i l e = never-stops refusal place (ends .1) (sym (i .first l) ∙ i .each 0 l ∙ e (count - 1 - 0))
 
@@ -428,8 +430,7 @@ module _ {s starts : List ℕ} {at count : ℕ} where
           by-token (read.Unread refusal place) e = absurd (rw e at (where-reads p h))
 
 pub operator-over : (s : List ℕ) (p n next : ℕ) → tokenAt s p ≡ read.Operator n next → passOf (tokenAt s p) ≡ Over next
-unfolding passOf
-operator-over s p n next e = rw e
+operator-over s p n next e = past-operator s p (form.Operator n next) e n next refl
 
 -- a token passed over ends past its place, inside the bytes
 pub over-inside : (s : List ℕ) (p next : ℕ) → passOf (tokenAt s p) ≡ Over next → (p < next) × (next ≤ length s)

@@ -27,5 +27,5 @@ pub record Seen (t : List ℕ) (at end : ℕ) : Type 0 where
 -- ---- a body that has been judged
 
 -- the body due at `at` is read to its end
-abbrev pub Ends : List ℕ → ℕ → Type 0
-Ends s at = (end : ℕ) × (bodyAt mostOpen s at ≡ Past end)
+abbrev pub BodyEnds : List ℕ → ℕ → Type 0
+BodyEnds s at = (end : ℕ) × (bodyAt mostOpen s at ≡ Past end)

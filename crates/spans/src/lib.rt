@@ -6,7 +6,7 @@ ghost use lib.ListN.{length};
 ghost use Rattle.machine.specs.Limits.{mostOpen};
 ghost use Rattle.machine.specs.declared.Went.the-variants.{Past};
 ghost use Rattle.machine.specs.Skeleton.{bodyAt};
-ghost use Rattle.spans.specs.Memo.{Noted, withNote, Seen, Ends};
+ghost use Rattle.spans.specs.Memo.{Noted, withNote, Seen, BodyEnds};
 use nesting::bodies::MOST_OPEN;
 
 // ---- the notes
@@ -53,7 +53,7 @@ const CLOSE: u8 = 107;
 
 // Where the body ends whose `{` is due from `at` on, by the braces between. `starts` says where the `{` of each open one stands.
 pub fn pass(s: &[u8], at: usize, memo: &mut [u32]) -> usize
-    requires { ⌜ (length (now s) ≤ 16777215) × Noted (now s) (now memo) × Ends (now s) at ⌝ }
+    requires { ⌜ (length (now s) ≤ 16777215) × Noted (now s) (now memo) × BodyEnds (now s) at ⌝ }
     ensures { λ r. ⌜ (bodyAt mostOpen (now (s .entry)) at ≡ Past r) × Noted (now (s .entry)) (now (memo .exit)) ⌝ }
 {
     let mut starts = [0usize; MOST_OPEN];
@@ -85,7 +85,7 @@ pub fn pass(s: &[u8], at: usize, memo: &mut [u32]) -> usize
 
 // Where the body ends whose `{` is due from `at` on, by the notes or passed over.
 pub fn span_of(s: &[u8], at: usize, memo: &mut [u32]) -> usize
-    requires { ⌜ (length (now s) ≤ 16777215) × Noted (now s) (now memo) × Ends (now s) at ⌝ }
+    requires { ⌜ (length (now s) ≤ 16777215) × Noted (now s) (now memo) × BodyEnds (now s) at ⌝ }
     ensures { λ r. ⌜ (bodyAt mostOpen (now (s .entry)) at ≡ Past r) × Noted (now (s .entry)) (now (memo .exit)) ⌝ }
 {
     let end = seen(memo, at);

@@ -41,7 +41,7 @@ use Rattle.state.proofs.Ending.{not-on}
 use Rattle.sprints.specs.declared.Stride.{Stride}
 use Rattle.machine.proofs.Literals.{First, first}
 use Rattle.passing.specs.Known.{Reads}
-use Rattle.sprints.specs.Swift.{Stood, Left, marked, raised, origin, ending, ahead, Flat, Strides, lifted, Rowed}
+use Rattle.sprints.specs.Swift.{TokenThere, LiteralsLeft, marked, raised, origin, ending, ahead, Flat, Strides, lifted, Rowed}
 use Rattle.sprints.proofs.Ahead.{ended-ahead, settle-ahead, step-ahead}
 use Rattle.sprints.proofs.Level.{stays-none}
 use Rattle.sprints.proofs.Swiftly.{run-last, none-run}
@@ -106,11 +106,11 @@ is-on false e = not-on (sym e)
 
 -- ---- bytes that have been judged
 
-module _ {b : List ℕ} {at end : ℕ} (h : Left b at end) where
+module _ {b : List ℕ} {at end : ℕ} (h : LiteralsLeft b at end) where
   left-here : NoComment (tokenAt b at) → First b at end
   left-here c = first b at end (h .0) (rw (solid-is b at at (none-at c)) at (h .1))
 
-  pub left-stood : Stood b at
+  pub left-stood : TokenThere b at
   left-stood = (by-token (tokenAt b at) refl, λ c. left-here c .is-literal)
     where
       by-token : (t : Read) → tokenAt b at ≡ t → Reads t
@@ -121,7 +121,7 @@ module _ {b : List ℕ} {at end : ℕ} (h : Left b at end) where
       by-token (read.Comment next) e = tt
       by-token (read.Unread r p) e = rw e at (stands-reads _ (left-here (rw e tt) .is-literal))
 
-  pub left-on : (next : ℕ) → NoComment (tokenAt b at) → foundAt b at .next ≡ solid b next → next < end → Left b next end
+  pub left-on : (next : ℕ) → NoComment (tokenAt b at) → foundAt b at .next ≡ solid b next → next < end → LiteralsLeft b next end
   left-on next c e l = (l, rw (← e) (left-here c .rest))
 
 -- ---- a literal

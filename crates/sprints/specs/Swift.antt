@@ -18,7 +18,7 @@ use Rattle.machine.specs.Step.{execute, isUnmark0, dueIn, step, run}
 use Rattle.machine.proofs.Comments.{NoComment}
 use Rattle.machine.proofs.Readable.{Readable}
 use Rattle.passing.specs.Known.{Reads}
-use Rattle.literals.specs.Dues.{Stands}
+use Rattle.literals.specs.Dues.{LiteralThere}
 use Rattle.sprints.specs.declared.Stride.{Stride}
 use Rattle.sprints.specs.declared.Reach.{Reach}
 use Rattle.state.specs.declared.Registers.{Registers}
@@ -27,12 +27,12 @@ use Rattle.state.specs.Layout.{stackOf, contextsOf, aside, abs, Good, Busy, Tri
 -- ---- bytes that have been judged
 
 -- a token: a literal, unless it is a comment
-abbrev pub Stood : List ℕ → ℕ → Type 0
-Stood b at = Reads (tokenAt b at) × (NoComment (tokenAt b at) → Stands b at)
+abbrev pub TokenThere : List ℕ → ℕ → Type 0
+TokenThere b at = Reads (tokenAt b at) × (NoComment (tokenAt b at) → LiteralThere b at)
 
 -- literals from `at` on, up to the end of their body, which is not there yet
-abbrev pub Left : List ℕ → ℕ → ℕ → Type 0
-Left b at end = (at < end) × Readable b (solid b at) end
+abbrev pub LiteralsLeft : List ℕ → ℕ → ℕ → Type 0
+LiteralsLeft b at end = (at < end) × Readable b (solid b at) end
 
 -- ---- one literal
 

@@ -19,8 +19,8 @@ ghost use Rattle.machine.specs.Step.{execute};
 ghost use Rattle.tokens.specs.declared.Read.the-variants as read;
 ghost use Rattle.tokens.specs.Token.{tokenAt};
 ghost use Rattle.state.specs.Layout.{Busy};
-ghost use Rattle.literals.specs.Dues.{Stands};
-ghost use Rattle.sprints.specs.Swift.{Stood, Left, marked, origin, ending, quiet, Flat, Strides, Rowed};
+ghost use Rattle.literals.specs.Dues.{LiteralThere};
+ghost use Rattle.sprints.specs.Swift.{TokenThere, LiteralsLeft, marked, origin, ending, quiet, Flat, Strides, Rowed};
 use literals::reading::TEXT;
 use machine::Effect;
 use machine::FrameOp;
@@ -282,7 +282,7 @@ fn undone(at: usize) -> Stride
 
 // A number or a name.
 fn sequence(w: &mut [u8], r: Registers, b: &[u8], at: usize) -> Stride
-    requires { ⌜ (length (now b) ≤ 16777215) × Busy (now w) r × ((at < length (now b)) × (192 ≤ getD (now b) at 0)) × Stood (now b) at ⌝ }
+    requires { ⌜ (length (now b) ≤ 16777215) × Busy (now w) r × ((at < length (now b)) × (192 ≤ getD (now b) at 0)) × TokenThere (now b) at ⌝ }
     ensures { λ t. ⌜ Strides (now (b .entry)) at (now (w .entry)) r (now (w .exit)) t ⌝ }
 {
     if !nesting::bodies::is_solid(b, at) {
@@ -316,7 +316,7 @@ fn sequence(w: &mut [u8], r: Registers, b: &[u8], at: usize) -> Stride
 
 // The literal at `at`. At a comment nothing is done.
 fn literal(w: &mut [u8], r: Registers, b: &[u8], at: usize, clear: usize) -> Stride
-    requires { ⌜ (length (now b) ≤ 16777215) × Busy (now w) r × (r .skipping ≡ false) × (r .ok ≡ false) × (marked (now w) (r .height) ≤ clear) × Stood (now b) at ⌝ }
+    requires { ⌜ (length (now b) ≤ 16777215) × Busy (now w) r × (r .skipping ≡ false) × (r .ok ≡ false) × (marked (now w) (r .height) ≤ clear) × TokenThere (now b) at ⌝ }
     ensures { λ t. ⌜ Strides (now (b .entry)) at (now (w .entry)) r (now (w .exit)) t ⌝ }
 {
     match passing::known::form(b, at) {
@@ -353,8 +353,8 @@ pub fn row(
     most: usize,
     clear: usize,
 ) -> Reach
-    requires { ⌜ (length (now b) ≤ 16777215) × Busy (now w) start × (start .skipping ≡ false) × (start .ok ≡ false) × (end ≡ ending (now w) (start .depth)) × (marked (now w) (start .height) ≤ clear) × Left (now b) at end ⌝ }
-    ensures { λ t. ⌜ (t .left ≤ most) × (t .left < most → t .at ≤ length (now (b .entry))) × ((t .number ≡ 0 → ⊥) → (0 < t .left) × (tokenAt (now (b .entry)) (t .at) ≡ read.Operator (t .number) (t .next)) × Stands (now (b .entry)) (t .at)) × (t .failed ≡ true → (0 < t .left) × (foundAt (now (b .entry)) (t .at) .next ≡ solid (now (b .entry)) (t .next)) × (t .next ≤ length (now (b .entry)))) × ((code : Code) (n : ℕ) → now (b .entry) ≡ bytesOf code (origin (now (w .entry)) (start .depth)) → Rowed code (now (b .entry)) at n most (now (w .entry)) start (now (w .exit)) t) ⌝ }
+    requires { ⌜ (length (now b) ≤ 16777215) × Busy (now w) start × (start .skipping ≡ false) × (start .ok ≡ false) × (end ≡ ending (now w) (start .depth)) × (marked (now w) (start .height) ≤ clear) × LiteralsLeft (now b) at end ⌝ }
+    ensures { λ t. ⌜ (t .left ≤ most) × (t .left < most → t .at ≤ length (now (b .entry))) × ((t .number ≡ 0 → ⊥) → (0 < t .left) × (tokenAt (now (b .entry)) (t .at) ≡ read.Operator (t .number) (t .next)) × LiteralThere (now (b .entry)) (t .at)) × (t .failed ≡ true → (0 < t .left) × (foundAt (now (b .entry)) (t .at) .next ≡ solid (now (b .entry)) (t .next)) × (t .next ≤ length (now (b .entry)))) × ((code : Code) (n : ℕ) → now (b .entry) ≡ bytesOf code (origin (now (w .entry)) (start .depth)) → Rowed code (now (b .entry)) at n most (now (w .entry)) start (now (w .exit)) t) ⌝ }
 {
     let mut r = start;
     let mut p = at;

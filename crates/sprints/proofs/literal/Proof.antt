@@ -4,7 +4,8 @@ use mathlib.Core.List.{[]}
 use Rattle.sprints.proofs.Rows.{strides-none, strides-of, number-none, operator-none}
 use Rattle.sprints.proofs.Swiftly.{figure-flat, by-figure, number-inside, found-number}
 use Rattle.sprints.proofs.Level.{flat-of}
-use Rattle.nesting.proofs.BodyTurns.{sequence-shown, operator-shown, operator-ends}
+use Rattle.nesting.proofs.BodyTurns.{operator-shown, operator-ends}
+use Rattle.passing.proofs.Knowing.{sequence-shown}
 use Rattle.literals.proofs.Passing.{plain-found}
 use borrow.Author.Needs.{needs}
 use Rattle.sprints.proofs.literal.Statement.{statement}

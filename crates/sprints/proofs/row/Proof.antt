@@ -3,12 +3,12 @@ use Rattle.state.proofs.Ending.{not-on}
 use Rattle.sprints.proofs.Rows.{Rolling, left-stood, left-on, still, not-yet, operator-solid, fallen, rolling-start, rolling-stop, rolling-on, rolling-ends}
 use mathlib.Core.Path.{refl}
 use native.Mathlib.Omega.{arith}
-use Rattle.sprints.specs.Swift.{Left}
+use Rattle.sprints.specs.Swift.{LiteralsLeft}
 use Rattle.sprints.proofs.row.Statement.{statement}
 use Rattle.sprints.proofs.row.Tie as tie
 
 abbrev Inv-loop : tie.InvT-loop
-Inv-loop w₀ b at end most clear r₀ p₀ left₀ w r p left = Rolling b at most clear w₀ r₀ w r p left × Left b p end
+Inv-loop w₀ b at end most clear r₀ p₀ left₀ w r p left = Rolling b at most clear w₀ r₀ w r p left × LiteralsLeft b p end
 
 abbrev μ-loop : tie.MeasureT-loop
 μ-loop w₀ b at end most clear r₀ p₀ left₀ w r p left = left

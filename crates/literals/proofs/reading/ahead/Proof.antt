@@ -1,6 +1,6 @@
 use Rattle.nesting.proofs.BodyTurns.{operator-shown}
 use Rattle.literals.proofs.Passing.{number-over, sequence-over}
-use Rattle.passing.proofs.Knowing.{shown-sequence, shown-cut, ends-there}
+use Rattle.passing.proofs.Knowing.{sequence-shown, shown-cut, ends-there}
 use Rattle.literals.proofs.Standing.{stands-reads, stands-solid, stands-ends, operator-passes}
 use mathlib.Core.Path.{refl}
 use borrow.Author.Needs.{needs}
@@ -17,10 +17,10 @@ ahead-spec =
     (λ c. search needs)
     (λ c κs. (c .before .before .before .before .before .pre .0, λ r. stands-ends _ _ _ (c .before .before .before .before .before .pre .1) (operator-shown _ _ _ _ _ (c .before .number .given .1) (c .before .before .before .form .ensures)) r))
     (λ c. search needs)
-    (λ c κs. shown-sequence _ _ _ (c .before .before .form .ensures) (c .enum-told .given .1) .0)
+    (λ c κs. sequence-shown _ _ _ (c .enum-told .given .1) (c .before .before .form .ensures) .0)
     (λ c κs. search needs)
     (λ c. search needs)
     (λ c. number-over _ _ _ (c .before .before .before .before .form .ensures) _ _ _ (c .before .before .next .given .1) (c .past-comments .ensures))
     (λ c. operator-passes _ _ _ (c .before .before .before .before .before .before .pre .1) (operator-shown _ _ _ _ _ (c .before .before .number .given .1) (c .before .before .before .before .form .ensures)) (c .past-operator .ensures) refl)
-    (λ c. let g = shown-sequence _ _ _ (c .before .before .before .before .form .ensures) (c .before .before .enum-told .given .1) in sequence-over _ _ g _ refl _ _ (stands-solid _ (c .before .before .before .before .before .before .pre .1)) (ends-there _ _ (g .1) (stands-reads _ (c .before .before .before .before .before .before .pre .1)) _ (c .before .extent .ensures)) (c .past-comments2 .ensures))
+    (λ c. let g = sequence-shown _ _ _ (c .before .before .enum-told .given .1) (c .before .before .before .before .form .ensures) in sequence-over _ _ g _ refl _ _ (stands-solid _ (c .before .before .before .before .before .before .pre .1)) (ends-there _ _ (g .1) (stands-reads _ (c .before .before .before .before .before .before .pre .1)) _ (c .before .extent .ensures)) (c .past-comments2 .ensures))
     (λ c. absurd (shown-cut _ _ _ (c .before .before .form .ensures) (c .enum-told2 .given .1) (stands-reads _ (c .before .before .before .before .pre .1)))))

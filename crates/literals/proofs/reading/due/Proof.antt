@@ -1,6 +1,6 @@
 use Rattle.nesting.proofs.BodyTurns.{operator-shown}
 use Rattle.literals.proofs.Passing.{number-found, operator-found, cut-found, is-as}
-use Rattle.passing.proofs.Knowing.{shown-sequence}
+use Rattle.passing.proofs.Knowing.{sequence-shown}
 use Rattle.literals.proofs.Standing.{stands-reads, stands-ends}
 use borrow.Author.Needs.{needs}
 use Rattle.literals.proofs.reading.due.Statement.{statement}
@@ -17,7 +17,7 @@ due-spec =
     (λ c. search needs)
     (λ c κs. (c .before .before .before .before .before .before .before .pre .0, c .before .before .before .before .before .before .before .pre .1, λ r. stands-ends _ _ _ (c .before .before .before .before .before .before .before .pre .2) (operator-shown _ _ _ _ _ (c .before .before .number .given .1) (c .before .before .before .before .form .ensures)) r))
     (λ c. search needs)
-    (λ c κs. (c .before .before .before .before .before .pre .0, shown-sequence _ _ _ (c .before .before .form .ensures) (c .enum-told .given .1), c .before .before .before .before .before .pre .2))
+    (λ c κs. (c .before .before .before .before .before .pre .0, sequence-shown _ _ _ (c .enum-told .given .1) (c .before .before .form .ensures), c .before .before .before .before .before .pre .2))
     (λ c. search needs)
     (λ c κs. search needs)
     (λ c. (is-as (number-found _ _ _ (c .before .before .before .before .before .form .ensures) _ _ _ (c .before .before .before .raw .given .1) (c .before .short-value .ensures)) (c .found .ensures), c .before .before .before .before .before .before .before .before .pre .1))

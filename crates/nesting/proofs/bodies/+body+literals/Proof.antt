@@ -14,7 +14,8 @@ use Rattle.passing.proofs.pass_sequence.Reads as pass-sequence-reads
 use Rattle.machine.proofs.Inside.{WentIn, due-inside, solid-past}
 use Rattle.machine.specs.Skeleton.{opening, solid, held}
 use Rattle.machine.specs.declared.Went.the-variants.{Past, Stop}
-use Rattle.nesting.proofs.BodyTurns.{Kept, shorter, onward, ended, refused, operator-ends, sequence-shown, number-on, plain-on, closing, barred, holding, passed, passedBy, cut, due-there, stopped, full, entered}
+use Rattle.nesting.proofs.BodyTurns.{Kept, shorter, onward, ended, refused, operator-ends, number-on, plain-on, closing, barred, holding, passed, passedBy, cut, due-there, stopped, full, entered}
+use Rattle.passing.proofs.Knowing.{sequence-shown}
 use Rattle.nesting.proofs.bodies.body.Reads as body
 use Rattle.nesting.proofs.bodies.body.Kinds as body-kinds
 use Rattle.nesting.proofs.bodies.+body+literals.Lts-body as body-lts

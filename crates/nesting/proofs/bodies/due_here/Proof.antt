@@ -3,7 +3,8 @@ use mathlib.Core.Path.{_∙_}
 use borrow.Author.Tests.{eq-eqb, ne-eqb}
 use borrow.Author.Needs.{needs}
 use Rattle.machine.specs.Skeleton.{dueBy}
-use Rattle.nesting.proofs.BodyTurns.{number-shown, operator-shown, sequence-shown, cut-shown, passed-due, stoppedBy}
+use Rattle.nesting.proofs.BodyTurns.{number-shown, operator-shown, cut-shown, passed-due, stoppedBy}
+use Rattle.passing.proofs.Knowing.{sequence-shown}
 use Rattle.nesting.proofs.bodies.due_here.Statement.{statement}
 use Rattle.nesting.proofs.bodies.due_here.Tie as tie
 
