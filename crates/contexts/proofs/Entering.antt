@@ -1,82 +1,76 @@
 -- Bodies entered and opened, a step begun. Assumes nothing.
 use mathlib.Core.Path.{_≡_, refl, _∙_}
-use mathlib.Core.Bool.{Bool, true, false, cond}
+use mathlib.Core.Bool.{Bool, true, false}
 use mathlib.Core.Logic.{inl, inr}
 use mathlib.Core.List.{List, _∷_}
 use mathlib.Core.Option.{Option}
-use Prim.Native.Nat.{ℕ, suc, _+_, _-_, _*_, _≤_, _<_}
+use Prim.Native.Nat.{ℕ, suc, _+_, _-_, _%_, _≤_, _<_}
 use native.Mathlib.Numerals.{add-one}
 use native.Mathlib.Omega.{arith}
 use borrow.Author.Tests.{le-leb, lt-leb}
-use lib.Dec.{eqb}
+use lib.Dec.{leb}
 use lib.ListN.{length, getD, set, length-set}
 use lib.Seq.{getD-set-same, set-set, set-getD}
 use Rattle.table.specs.declared.Slot.{Slot}
-use Rattle.table.specs.Slots.{nil, mk, slots, desc, copied}
-use Rattle.table.proofs.Moves.{same-set, same-copied, same-then, Apart, length-copied}
+use Rattle.table.specs.Slots.{nil, mk, slots, desc}
+use Rattle.table.proofs.Moves.{Same, same-set}
 use Rattle.machine.specs.State.{Context, State, running}
-use Rattle.machine.specs.Contexts.{atEnd, from, leaveAt, leave, settle}
+use Rattle.machine.specs.Contexts.{atEnd, leaveAt, leave, settle}
 use Rattle.machine.specs.Engine.{fits, limited, withContexts, enter}
 use Rattle.machine.specs.Step.{begunIn, begun}
 use Rattle.state.specs.declared.Registers.{Registers}
-use Rattle.state.specs.Layout.{stackOf, valuesAt, frameAt, contextIn, contextAt, contextsOf, aside, abs, Good, Busy, Tried, goesTo, Begun}
-use Rattle.state.specs.Operations.{entered, inline, call, contextPut, opening, Opened}
-use Rattle.state.proofs.Parts.{wide, room-of, stack-same, values-same, contexts-same, aside-same, length-stack, length-contexts, contexts-at}
+use Rattle.state.specs.Layout.{stackOf, valuesAt, frameAt, frameOf, contextIn, contextAt, contextsOf, aside, abs, lentBy, lent, Good, Busy, Tried, goesTo, Begun}
+use Rattle.state.specs.Operations.{entered, inline, call, opening, Opened}
+use Rattle.state.proofs.Parts.{wide, room-of, stack-same, values-same, Lies, lent-lies, lies-lent, lies-up, frame-same, lent-same, lent-none, lent-top, lent-more, lent-renew, contexts-same, aside-same, length-stack, length-contexts, contexts-at}
 use Rattle.state.proofs.Ending.{state-path}
-use Rattle.state.proofs.Cutting.{values-moved, values-part, contexts-renew}
+use Rattle.state.proofs.Cutting.{values-part, contexts-renew}
 use Rattle.state.proofs.Trying.{trying, failed, tried-no, tried-yes, fits-abs}
 
--- ---- a body entered, its frame copied from the slot s on
+-- ---- a body entered on a frame that stands, with the word o
 
-module _ {w : List ℕ} {r : Registers} (f : State → Option State) (s origin at end : ℕ) (o : ℕ) (g : Busy w r) (room₁ : s + 50 ≤ 2400) (apart : Apart s (frameAt (r .depth)) 50)
-    (meant : f (abs w r) ≡ enter (entered origin at end (eqb o 1) (valuesAt (slots w) s 50) (abs w r)) (abs w r)) where
+module _ {w : List ℕ} {r : Registers} (f : State → Option State) (origin at end o : ℕ) (g : Busy w r)
+    (meant : f (abs w r) ≡ enter (entered origin at end (leb 4096 o) (valuesAt (slots w) (128 + o % 4096) 50) (abs w r)) (abs w r)) where
   enter-full : {r′ : Registers} → 12 ≤ r .depth → r′ ≡ failed r → Tried f w r w r′
   unfolding enter limited fits
   enter-full {r′} h q = tried-no g (meant ∙ (rw (length-stack, le-leb (r .height) 128 (g .stack-fits), length-contexts, lt-leb (suc (r .depth)) 12 (omega arith)))) q
 
-  module _ (w′ : List ℕ) (h : r .depth < 12) (p : slots w′ ≡ contextPut (slots w) (r .steps) (r .depth) s origin at end o) where
+  module _ (w′ : List ℕ) (h : r .depth < 12) (takes : lentBy (r .depth) (o % 4096) ≤ r .used) (p : slots w′ ≡ set (slots w) (1752 + r .depth) (mk (r .steps) origin at end o)) where
     new : Context
-    new = entered origin at end (eqb o 1) (valuesAt (slots w) s 50) (abs w r)
+    new = entered origin at end (leb 4096 o) (valuesAt (slots w) (128 + o % 4096) 50) (abs w r)
 
-    contexts-put : contextsOf (slots w′) (r .depth + 1) ≡ new ∷ contextsOf (slots w) (r .depth)
-    unfolding contextPut contextsOf contextAt contextIn new
+    abbrev put : List Slot
+    put = set (slots w) (1752 + r .depth) (mk (r .steps) origin at end o)
+
+    there : getD put (1752 + r .depth) nil ≡ mk (r .steps) origin at end o
+    there = getD-set-same (slots w) (1752 + r .depth) (mk (r .steps) origin at end o) nil (omega (arith, wide w (g .room)))
+
+    under : (a b : ℕ) → b ≤ 1752 + r .depth → Same put (slots w) a b
+    under a b l = same-set (slots w) (1752 + r .depth) (mk (r .steps) origin at end o) a b (inr l)
+
+    contexts-put : contextsOf put (suc (r .depth)) ≡ new ∷ contextsOf (slots w) (r .depth)
+    unfolding contextsOf contextAt contextIn new
     contexts-put =
-        let m = slots w in
         let d = r .depth in
-        let m₁ = copied m s (frameAt d) 50 in
-        let v = mk (r .steps) origin at end o in
-        let m′ = set m₁ (1752 + d) v in
-        let room = wide w (g .room) in
-        let l₁ = length-copied m s (frameAt d) 50 in
-        let fr : valuesAt m′ (frameAt d) 50 ≡ valuesAt m s 50 =
-        values-same m′ m₁ (frameAt d) 50 (same-set m₁ (1752 + d) v (frameAt d) _ (inr (omega arith))) ∙ values-moved m s (frameAt d) 50 (omega arith) apart in
-        let cs : contextsOf m′ d ≡ contextsOf m d =
-        contexts-same m′ m d
-        (same-then m′ m₁ m 128 _ (same-set m₁ (1752 + d) v 128 _ (inr (omega arith))) (same-copied m s (frameAt d) 50 128 _ (inr (omega arith))))
-        (same-then m′ m₁ m 1752 _ (same-set m₁ (1752 + d) v 1752 _ (inr (omega arith))) (same-copied m s (frameAt d) 50 1752 _ (inl (omega arith)))) in
-        rw (p, add-one, getD-set-same m₁ (1752 + d) v nil (omega arith), fr, cs)
+        rw (
+          there,
+          frame-same put (slots w) d (o % 4096) (r .used) takes (g .cells-fit) (under 128 _ (omega arith)) (under 728 _ (omega (arith, g .cells-fit))),
+          contexts-same put (slots w) d (r .used) (omega (arith, lent-same put (slots w) d (under 1752 _ (omega arith)))) (g .cells-fit) (under 128 _ (omega arith)) (under 728 _ (omega (arith, g .cells-fit))) (under 1752 _ (omega arith)),
+        )
 
     enter-made : {r′ : Registers} → r′ ≡ trying r (r .height) (r .depth + 1) (r .used) true → Tried f w r w′ r′
-    unfolding contextPut enter new
+    unfolding enter new
     enter-made {r′} q =
         let m = slots w in
         let d = r .depth in
-        let m₁ = copied m s (frameAt d) 50 in
-        let v = mk (r .steps) origin at end o in
-        let m′ = set m₁ (1752 + d) v in
-        let room = wide w (g .room) in
-        let big : 2400 ≤ length m′ = rw (length-set, length-copied) room in
-        let pm : slots w′ ≡ m′ = p in
-        let rm = room-of w′ m′ pm big in
+        let big : 2400 ≤ length put = rw length-set (wide w (g .room)) in
+        let rm = room-of w′ put p big in
         let r₁ = trying r (r .height) (d + 1) (r .used) true in
+        let one : d + 1 ≡ suc d = add-one d in
+        let fr : lent (slots w′) (d + 1) ≤ r .used = rw (p, one) (lent-more m put d (r .used) (g .frames-fit) (under 1752 _ (omega arith)) (rw there takes)) in
         let e : abs w′ r₁ ≡ withContexts (new ∷ contextsOf m d) (abs w r) =
-        state-path
-        (rw pm (stack-same m′ m (r .height) (same-then m′ m₁ m 0 _ (same-set m₁ (1752 + d) v 0 _ (inr (omega arith))) (same-copied m s (frameAt d) 50 0 _ (inr (omega arith))))))
-        contexts-put
-        (rw pm (values-same m′ m 128 50 (same-then m′ m₁ m 128 _ (same-set m₁ (1752 + d) v 128 _ (inr (omega arith))) (same-copied m s (frameAt d) 50 128 _ (inr (omega arith))))))
-        (rw pm (values-same m′ m 728 (r .used) (same-then m′ m₁ m 728 _ (same-set m₁ (1752 + d) v 728 _ (inr (omega arith))) (same-copied m s (frameAt d) 50 728 _ (inl (omega arith)))))) in
-        let kp : aside w′ ≡ aside w =
-        aside-same w′ w (rw pm (same-then m′ m₁ m 1764 1814 (same-set m₁ (1752 + d) v 1764 1814 (inl (omega arith))) (same-copied m s (frameAt d) 50 1764 1814 (inl (omega arith))))) in
+        state-path (rw p (stack-same put m (r .height) (under 0 _ (omega arith)))) (rw (p, one) contexts-put) (rw p (values-same put m 128 50 (under 128 _ (omega arith))))
+        (rw p (values-same put m 728 (r .used) (under 728 _ (omega (arith, g .cells-fit))))) in
+        let kp : aside w′ ≡ aside w = aside-same w′ w (rw p (same-set m (1752 + d) (mk (r .steps) origin at end o) 1764 1814 (inl (omega arith)))) in
         rw q (tried-yes (omega arith) kp refl refl (meant ∙ (rw (← e) (fits-abs w′ r₁ (g .stack-fits) (omega arith) (g .cells-fit)))))
 
 -- ---- where the running body goes on
@@ -85,45 +79,44 @@ pub running-at : (w : List ℕ) (d : ℕ) (c : Slot) → 0 < d → c ≡ getD (s
 unfolding running contextIn
 running-at w d c h e = (rw (contexts-at (slots w) d c h e), rw (contexts-at (slots w) d c h e))
 
--- ---- with a copy of the running frame
+-- ---- on the running frame
 
 module _ {w : List ℕ} {r : Registers} (at end : ℕ) (owes : Bool) (g : Busy w r) where
-  inline-is : (c : Slot) (o : ℕ) → c ≡ getD (slots w) (1752 + (r .depth - 1)) nil → eqb o 1 ≡ owes
-      → inline at end owes (abs w r) ≡ enter (entered (c .a) at end (eqb o 1) (valuesAt (slots w) (frameAt (r .depth - 1)) 50) (abs w r)) (abs w r)
+  inline-is : (c : Slot) (o : ℕ) → c ≡ getD (slots w) (1752 + (r .depth - 1)) nil → (o % 4096 ≡ c .d % 4096) × (leb 4096 o ≡ owes)
+      → inline at end owes (abs w r) ≡ enter (entered (c .a) at end (leb 4096 o) (valuesAt (slots w) (128 + o % 4096) 50) (abs w r)) (abs w r)
   unfolding inline running contextIn
-  inline-is c o got e = rw (contexts-at (slots w) (r .depth) c (g .runs) got, e)
-
-  bit : ℕ
-  bit = cond owes 1 0
-
-  bit-is : eqb bit 1 ≡ owes
-  unfolding bit
-  bit-is = go owes
-    where
-      go : (b : Bool) → eqb (cond b 1 0) 1 ≡ b
-      go true = refl
-      go false = refl
+  inline-is c o got (e, f) = rw (contexts-at (slots w) (r .depth) c (g .runs) got, e, f)
 
   pub inline-full : {r′ : Registers} → 12 ≤ r .depth → r′ ≡ failed r → Tried (inline at end owes) w r w r′
-  inline-full {r′} h q = enter-full (inline at end owes) (frameAt (r .depth - 1)) _ at end bit g (omega arith) (inl (omega arith)) (inline-is _ bit refl bit-is) h q
+  unfolding inline enter limited fits
+  inline-full {r′} h q = tried-no g (rw (length-stack, le-leb (r .height) 128 (g .stack-fits), length-contexts, lt-leb (suc (r .depth)) 12 (omega arith))) q
 
-  pub inline-yes : {w′ : List ℕ} {r′ : Registers} (c : Slot) (o : ℕ) → r .depth < 12 → c ≡ getD (slots w) (1752 + (r .depth - 1)) nil → eqb o 1 ≡ owes
-      → slots w′ ≡ contextPut (slots w) (r .steps) (r .depth) (128 + 50 * (r .depth - 1)) (c .a) at end o → r′ ≡ trying r (r .height) (r .depth + 1) (r .used) true → Tried (inline at end owes) w r w′ r′
-  inline-yes {w′} {r′} c o h got e p q = enter-made (inline at end owes) (frameAt (r .depth - 1)) (c .a) at end o g (omega arith) (inl (omega arith)) (inline-is c o got e) w′ h p q
+  pub inline-yes : {w′ : List ℕ} {r′ : Registers} (c : Slot) (o : ℕ) → r .depth < 12 → c ≡ getD (slots w) (1752 + (r .depth - 1)) nil → (o % 4096 ≡ c .d % 4096) × (leb 4096 o ≡ owes)
+      → slots w′ ≡ set (slots w) (1752 + r .depth) (mk (r .steps) (c .a) at end o) → r′ ≡ trying r (r .height) (r .depth + 1) (r .used) true → Tried (inline at end owes) w r w′ r′
+  inline-yes {w′} {r′} c o h got (e, f) p q =
+      let d = r .depth in
+      let one : suc (d - 1) ≡ d = omega (arith, g .runs) in
+      let lies : Lies (d - 1) (c .d % 4096) (r .used) = lent-lies (d - 1) (c .d % 4096) (r .used) (rw got (lent-top (slots w) d (r .used) (g .runs) (g .frames-fit))) (g .cells-fit) in
+      let takes : lentBy d (o % 4096) ≤ r .used = rw e (lies-lent d (c .d % 4096) (r .used) (rw one at (lies-up (d - 1) (c .d % 4096) (r .used) lies))) in
+      enter-made (inline at end owes) (c .a) at end o g (inline-is c o got (e, f)) w′ h takes p q
 
--- ---- with a kept frame
+-- ---- on a kept frame
 
 module _ {w : List ℕ} {r : Registers} (origin at end first : ℕ) (g : Busy w r) (kept : first + 50 ≤ r .used) where
-  call-is : call origin at end first (abs w r) ≡ enter (entered origin at end (eqb 0 1) (valuesAt (slots w) (728 + first) 50) (abs w r)) (abs w r)
+  call-is : (o : ℕ) → (o % 4096 ≡ 600 + first) × (leb 4096 o ≡ false) → call origin at end first (abs w r) ≡ enter (entered origin at end (leb 4096 o) (valuesAt (slots w) (128 + o % 4096) 50) (abs w r)) (abs w r)
   unfolding call
-  call-is = rw (values-part (slots w) 728 first 50 (r .used) kept)
+  call-is o (e, f) = let z : 728 + first ≡ 128 + (600 + first) = omega arith in rw (values-part (slots w) 728 first 50 (r .used) kept, e, f, z)
 
   pub call-full : {r′ : Registers} → 12 ≤ r .depth → r′ ≡ failed r → Tried (call origin at end first) w r w r′
-  call-full {r′} h q = enter-full (call origin at end first) (728 + first) origin at end 0 g (omega arith) (inr (omega arith)) call-is h q
+  unfolding call enter limited fits
+  call-full {r′} h q = tried-no g (rw (length-stack, le-leb (r .height) 128 (g .stack-fits), length-contexts, lt-leb (suc (r .depth)) 12 (omega arith))) q
 
-  pub call-yes : {w′ : List ℕ} {r′ : Registers} → r .depth < 12
-      → slots w′ ≡ contextPut (slots w) (r .steps) (r .depth) (728 + first) origin at end 0 → r′ ≡ trying r (r .height) (r .depth + 1) (r .used) true → Tried (call origin at end first) w r w′ r′
-  call-yes {w′} {r′} h p q = enter-made (call origin at end first) (728 + first) origin at end 0 g (omega arith) (inr (omega arith)) call-is w′ h p q
+  pub call-yes : {w′ : List ℕ} {r′ : Registers} (k o : ℕ) → r .depth < 12 → k ≡ 600 + first → (o % 4096 ≡ k) × (leb 4096 o ≡ false)
+      → slots w′ ≡ set (slots w) (1752 + r .depth) (mk (r .steps) origin at end o) → r′ ≡ trying r (r .height) (r .depth + 1) (r .used) true → Tried (call origin at end first) w r w′ r′
+  call-yes {w′} {r′} k o h z (e, f) p q =
+      let en : o % 4096 ≡ 600 + first = e ∙ z in
+      let takes : lentBy (r .depth) (o % 4096) ≤ r .used = rw en (lies-lent (r .depth) (600 + first) (r .used) (inr (inr (omega (arith, g .runs), (omega arith, omega arith))))) in
+      enter-made (call origin at end first) origin at end o g (call-is o (en, f)) w′ h takes p q
 
 -- ---- a body of the engine's opened
 
@@ -147,12 +140,13 @@ module _ (w w′ : List ℕ) (origin at end used : ℕ) (room : 48000 ≤ length
   unfolding opening settle leave leaveAt atEnd contextsOf stackOf desc
   open-none {r} e q =
       let wd = room-there in
-      rw q (record { good = omega arith; is = rw (le-leb end at e) (state-path refl refl frame-there cells-there); keeps = aside-there; counted = refl })
+      rw q (record { good = omega (arith, lent-none (slots w′) used); is = rw (le-leb end at e) (state-path refl refl frame-there cells-there); keeps = aside-there; counted = refl })
 
   pub open-some : {r : Registers} → at < end → r ≡ record { height = 0; depth = 1; used = used; steps = 0; errors = 0; skipping = false; ok = true } → Opened origin at end used w w′ r
   unfolding opening settle leave leaveAt atEnd contextsOf contextAt contextIn stackOf desc
   open-some {r} e q =
       let wd = room-there in
+      let fr : lent (slots w′) 1 ≤ used = lent-more (slots w) (slots w′) 0 used (lent-none (slots w) used) (λ k a b. absurd (omega arith)) (rw context-there (lies-lent 0 0 used (inl refl))) in
       rw q (record { good = omega arith; is = rw (lt-leb end at e) (rw (context-there, frame-there, cells-there)); keeps = aside-there; counted = refl })
 
 -- ---- a step begins
@@ -174,9 +168,15 @@ begin-done {w} {w′} {r} {r′} next g d0 sl p q =
     let room = wide w (g .room) in
     let big : 2400 ≤ length m′ = rw length-set room in
     let rm = room-of w′ m′ p big in
-    let cs : contextsOf m′ d ≡ contextIn v (valuesAt m (frameAt (d - 1)) 50) ∷ contextsOf m (d - 1) =
-    contexts-renew m m′ d d0 (g .depth-fits) (same-set m k v 128 _ (inr (omega arith))) (same-set m k v 1752 _ (inr (omega arith))) ∙
-    (rw (getD-set-same m k v nil (omega arith), values-same m′ m (frameAt (d - 1)) 50 (same-set m k v (frameAt (d - 1)) _ (inr (omega arith))))) in
+    let takes : lentBy (d - 1) (c .d % 4096) ≤ r .used = lent-top m d (r .used) d0 (g .frames-fit) in
+    let there : getD m′ k nil ≡ v = getD-set-same m k v nil (omega arith) in
+    let frames : Same m′ m 128 (frameAt (d - 1) + 50) = same-set m k v 128 _ (inr (omega (arith, g .depth-fits))) in
+    let cells : Same m′ m 728 (728 + r .used) = same-set m k v 728 _ (inr (omega (arith, g .cells-fit))) in
+    let below : Same m′ m 1752 k = same-set m k v 1752 k (inr (omega arith)) in
+    let fr : lent (slots w′) d ≤ r .used = rw p (lent-renew m m′ d (r .used) d0 (g .frames-fit) below (rw there takes)) in
+    let cs : contextsOf m′ d ≡ contextIn v (valuesAt m (frameOf c) 50) ∷ contextsOf m (d - 1) =
+    contexts-renew m m′ d (r .used) d0 (g .frames-fit) (g .cells-fit) (λ i a b. frames i a (omega arith)) cells below ∙
+    (rw (there, frame-same m′ m (d - 1) (c .d % 4096) (r .used) takes (g .cells-fit) frames cells)) in
     rw q (record {
       moves = p;
       registers = refl;

@@ -1,12 +1,12 @@
 // A step begun, bodies entered, a body of the engine's opened.
 ghost use mathlib.Core.Path.{_≡_};
 ghost use Prim.Native.Nat.{_+_, _<_, _≤_};
-ghost use lib.Dec.{eqb};
-ghost use lib.ListN.{length};
-ghost use Rattle.table.specs.Slots.{slots};
+ghost use lib.ListN.{length, set};
+ghost use Rattle.table.specs.Slots.{slots, mk};
 ghost use Rattle.machine.specs.State.{running};
 ghost use Rattle.state.specs.Layout.{contextsOf, Good, Busy, Tried, goesTo, Begun};
-ghost use Rattle.state.specs.Operations.{inline, call, contextPut, Opened};
+ghost use Rattle.state.specs.Operations.{inline, call, Opened};
+use crate::frames;
 use state::Place;
 use state::Registers;
 use table::Slot;
@@ -53,21 +53,11 @@ pub fn running(w: &[u8], depth: usize) -> Place
     }
 }
 
-// The context d, with a frame copied from the slot s on.
-fn put_context(
-    w: &mut [u8],
-    id: usize,
-    d: usize,
-    s: usize,
-    origin: u32,
-    at: u32,
-    end: u32,
-    owes: u32,
-)
-    requires { ⌜ (id < 4294967296) × (d < 12) × (s + 50 ≤ 2400) × (48000 ≤ length (now w)) ⌝ }
-    ensures { λ _. ⌜ slots (now (w .exit)) ≡ contextPut (slots (now (w .entry))) id d s origin at end owes ⌝ }
+// The context d, with its last word.
+fn put_context(w: &mut [u8], id: usize, d: usize, origin: u32, at: u32, end: u32, word: u32)
+    requires { ⌜ (id < 4294967296) × (d < 12) × (48000 ≤ length (now w)) ⌝ }
+    ensures { λ _. ⌜ slots (now (w .exit)) ≡ set (slots (now (w .entry))) (1752 + d) (mk id origin at end word) ⌝ }
 {
-    table::slots::copy_long(w, s, 128 + 50 * d, 50);
     let i = table::words::word(id);
     table::slots::put(
         w,
@@ -77,21 +67,12 @@ fn put_context(
             a: origin,
             b: at,
             c: end,
-            d: owes,
+            d: word,
         },
     );
 }
 
-fn owing(owes: bool) -> u32
-    ensures { λ r. ⌜ eqb r 1 ≡ owes ⌝ }
-{
-    if owes {
-        return 1;
-    }
-    0
-}
-
-// A body entered with a copy of the running frame.
+// A body entered on the running frame.
 pub fn inline(w: &mut [u8], r: Registers, at: u32, end: u32, owes: bool) -> Registers
     requires { ⌜ Busy (now w) r ⌝ }
     ensures { λ q. ⌜ Tried (inline at end owes) (now (w .entry)) r (now (w .exit)) q ⌝ }
@@ -101,15 +82,15 @@ pub fn inline(w: &mut [u8], r: Registers, at: u32, end: u32, owes: bool) -> Regi
         return state::stack::failed(r);
     }
     let c = table::slots::get(w, 1752 + (d - 1));
-    let o = owing(owes);
-    put_context(w, r.steps, d, 128 + 50 * (d - 1), c.a, at, end, o);
+    let word = frames::lying(c.d % 4096, owes);
+    put_context(w, r.steps, d, c.a, at, end, word);
     let mut q = r;
     q.depth = d + 1;
     q.ok = true;
     q
 }
 
-// A body entered with the frame that stands in the cells from `first` on.
+// A body entered on the frame that stands in the cells from `first` on.
 pub fn call(w: &mut [u8], r: Registers, origin: u32, at: u32, end: u32, first: usize) -> Registers
     requires { ⌜ Busy (now w) r × (first + 50 ≤ r .used) ⌝ }
     ensures { λ q. ⌜ Tried (call origin at end first) (now (w .entry)) r (now (w .exit)) q ⌝ }
@@ -118,7 +99,8 @@ pub fn call(w: &mut [u8], r: Registers, origin: u32, at: u32, end: u32, first: u
     if d >= 12 {
         return state::stack::failed(r);
     }
-    put_context(w, r.steps, d, 728 + first, origin, at, end, 0);
+    let word = frames::lying(table::words::word(600 + first), false);
+    put_context(w, r.steps, d, origin, at, end, word);
     let mut q = r;
     q.depth = d + 1;
     q.ok = true;

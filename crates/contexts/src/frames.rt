@@ -1,12 +1,14 @@
-// The running frame; the frame of a body of the engine's.
+// The running frame; the frame of a body of the engine's. Until a body stores to its frame, that lies where it was found (DECISIONS, D78).
 ghost use mathlib.Core.Path.{_≡_};
-ghost use Prim.Native.Nat.{_+_, _≤_};
+ghost use Prim.Native.Nat.{_+_, _%_, _<_, _≤_};
+ghost use lib.Dec.{leb};
 ghost use lib.ListN.{length};
 ghost use Rattle.table.specs.Slots.{slots, copied};
 ghost use Rattle.machine.specs.Engine.{store};
 ghost use Rattle.state.specs.Layout.{Busy, Tried};
-ghost use Rattle.state.specs.Operations.{fetch, filled};
+ghost use Rattle.state.specs.Operations.{fetch, filled, Owned};
 use state::Registers;
+use table::Slot;
 
 // FGET: the element j of the running frame is pushed.
 pub fn fetch(w: &mut [u8], r: Registers, j: usize) -> Registers
@@ -16,10 +18,48 @@ pub fn fetch(w: &mut [u8], r: Registers, j: usize) -> Registers
     if j >= 50 {
         return state::stack::push_slot(w, r, state::values::zero());
     }
-    let d = r.depth;
-    let v = table::slots::get(w, 128 + 50 * (d - 1) + j);
+    let c = table::slots::get(w, 1752 + (r.depth - 1));
+    let v = table::slots::get(w, 128 + table::words::size(c.d % 4096) + j);
     let u = state::values::plain(v);
     state::stack::push_slot(w, r, u)
+}
+
+// The last word of a context: its frame lies so many slots from 128 on, and whether it owes.
+pub fn lying(frame: u32, owes: bool) -> u32
+    requires { ⌜ frame < 4096 ⌝ }
+    ensures { λ r. ⌜ (r % 4096 ≡ frame) × (leb 4096 r ≡ owes) ⌝ }
+{
+    if owes {
+        return 4096 + frame;
+    }
+    frame
+}
+
+// The running context gets a frame of its own, as the running one is.
+fn own(w: &mut [u8], r: Registers)
+    requires { ⌜ Busy (now w) r ⌝ }
+    ensures { λ _. ⌜ Owned (now (w .entry)) r (now (w .exit)) ⌝ }
+{
+    let d = r.depth;
+    let c = table::slots::get(w, 1752 + (d - 1));
+    let from = table::words::size(c.d % 4096);
+    let to = 50 * (d - 1);
+    if from == to {
+        return;
+    }
+    table::slots::copy_long(w, 128 + from, 128 + to, 50);
+    let word = lying(table::words::word(to), c.d >= 4096);
+    table::slots::put(
+        w,
+        1752 + (d - 1),
+        Slot {
+            kind: c.kind,
+            a: c.a,
+            b: c.b,
+            c: c.c,
+            d: word,
+        },
+    );
 }
 
 // FSET: the topmost value goes into the element j of the running frame.
@@ -41,8 +81,8 @@ pub fn store(w: &mut [u8], r: Registers, j: usize) -> Registers
     if j >= 50 {
         return q;
     }
-    let d = r.depth;
-    table::slots::put(w, 128 + 50 * (d - 1) + j, v);
+    own(w, r);
+    table::slots::put(w, 128 + 50 * (r.depth - 1) + j, v);
     q
 }
 

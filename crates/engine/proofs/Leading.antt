@@ -52,6 +52,11 @@ module _ {w w₁ : List ℕ} {r p : Registers} (pre body : List ℕ) (t : Attemp
   pub pace-settles : {w′ : List ℕ} {r′ : Registers} → p .ok ≡ true → Done settle w₁ p w′ r′ → Stepped pre body w r w′ r′
   pace-settles o d = record { good = d .good; does = d .does ∙ t .does o; keeps = d .keeps ∙ t .keeps; counted = d .counted ∙ t .counted }
 
+  -- one that has failed may recover
+  pub pace-recovers : Good w r → p .ok ≡ false → Good w₁ (stepped r (r .height)) × (r .errors < r .steps + 1)
+  pace-recovers g o =
+      (record { room = t .busy .room; stack-fits = g .stack-fits; depth-fits = g .depth-fits; cells-fit = g .cells-fit; frames-fit = t .frames o; errors-fit = omega (arith, g .errors-fit) }, omega (arith, g .errors-fit))
+
   pub pace-faults : {w′ : List ℕ} {r′ : Registers} → p .ok ≡ false → Done fault w₁ (stepped r (r .height)) w′ r′ → Stepped pre body w r w′ r′
   pace-faults o d = record { good = d .good; does = d .does ∙ t .fails o; keeps = d .keeps ∙ t .keeps; counted = d .counted }
 
@@ -116,8 +121,12 @@ module _ {w w₁ : List ℕ} {r q : Registers} (pre body : List ℕ) (most : ℕ
   pub onward-led : q .ok ≡ false → Onward (both pre body) most w r w₁ q
   onward-led o = record { good = t .good; does = sym (t .does); keeps = t .keeps; some = t .some o; within = t .within }
 
-pub run-onward : {R : State} {code : Code} {w w′ : List ℕ} {r r′ : Registers} (n : ℕ) → run n code (abs w r) ≡ R → Onward code n w r w′ r′ → run (n - (r′ .steps - r .steps)) code (abs w′ r′) ≡ R
-run-onward {R} {code} {w} {w′} {r} {r′} n inv d =
+-- the steps left until the last: at first all, and some steps later so many fewer
+pub run-whole : (first n : ℕ) (code : Code) (s : State) → run (first + n - first) code s ≡ run n code s
+run-whole first n code s = let z : first + n - first ≡ n = omega arith in rw z
+
+pub run-onward : {R : State} {code : Code} {w w′ : List ℕ} {r r′ : Registers} (last : ℕ) → run (last - r .steps) code (abs w r) ≡ R → Onward code (last - r .steps) w r w′ r′ → run (last - r′ .steps) code (abs w′ r′) ≡ R
+run-onward {R} {code} {w} {w′} {r} {r′} last inv d =
     let k = r′ .steps - r .steps in
-    let z : n ≡ k + (n - k) = omega (arith, d .within) in
-    rw (d .does) (sym (run-both code k (n - k) (abs w r))) ∙ (rw z at inv)
+    let z : last - r .steps ≡ k + (last - r′ .steps) = omega (arith, d .some, d .within) in
+    rw (d .does) (sym (run-both code k (last - r′ .steps) (abs w r))) ∙ (rw z at inv)

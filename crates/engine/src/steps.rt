@@ -275,13 +275,12 @@ fn run_noting<'a>(
     ensures { λ q. ⌜ Ran (now (pre .entry)) (now (body .entry)) allowance (now (w .entry)) start (now (w .exit)) q ⌝ }
 {
     let mut r = start;
-    let mut left = allowance;
-    while left > 0 {
+    let last = start.steps + allowance;
+    while r.steps < last {
         if r.depth == 0 {
             return r;
         }
-        let q = onward(w, r, pre, body, early, notes, left);
-        left -= q.steps - r.steps;
+        let q = onward(w, r, pre, body, early, notes, last - r.steps);
         r = afresh(q);
     }
     r

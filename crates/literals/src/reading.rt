@@ -105,10 +105,10 @@ fn read_sequence(b: &[u8], at: usize) -> Due
 // The types of a string and of an identifier.
 pub const TEXT: u8 = 1;
 
-const NAME: u8 = 5;
+pub const NAME: u8 = 5;
 
 // A number, a name or a string at `at`. Only numbers are read: of the others it is enough where they end.
-pub fn due_sequence(b: &[u8], at: usize) -> Due
+fn due_sequence(b: &[u8], at: usize) -> Due
     requires { ⌜ (length (now b) ≤ 16777215) × ((at < length (now b)) × (192 ≤ getD (now b) at 0)) × LiteralThere (now b) at ⌝ }
     ensures { λ r. ⌜ Is (foundAt (now (b .entry)) at) r ⌝ }
 {

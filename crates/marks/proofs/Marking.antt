@@ -7,7 +7,7 @@ use mathlib.Core.Option.{Option, none, some}
 use Prim.Native.Nat.{ℕ, zero, suc, _+_, _-_, _≤_, _<_}
 use native.Mathlib.Decide.{ℕ-discrete}
 use native.Mathlib.Omega.{arith}
-use borrow.Author.Tests.{eq-eqb, ne-eqb, leb-false}
+use borrow.Author.Tests.{eq-eqb, ne-eqb, leb-false, le-leb}
 use lib.Dec.{eqb, leb}
 use lib.ListN.{length, getD, set, take, drop, length-set, length-append}
 use mir.Syntax.{w32}
@@ -19,14 +19,14 @@ use Rattle.machine.specs.declared.Value.{Value}
 use Rattle.machine.specs.State.{Entry, val, mark, State, running}
 use Rattle.machine.specs.Contexts.{above, beneath, over}
 use Rattle.machine.specs.Operand.{natural}
-use Rattle.machine.specs.Engine.{limited, provided, withStack, values, push, has, place, removeAt, remove, tallyAt, tally}
+use Rattle.machine.specs.Engine.{limited, provided, withStack, push, has, place, removeAt, remove, tallyAt, tally}
 use Rattle.state.specs.declared.Registers.{Registers}
 use Rattle.state.specs.Layout.{valueIn, entryIn, stackOf, contextIn, contextsOf, abs, Busy, Tried}
 use lib.ListN.{drop-of-length-le}
 use Rattle.state.specs.Operations.{markPut}
 use Rattle.state.proofs.Parts.{wide, room-of, stack-same, stack-at, stack-more, contexts-at, length-stack}
 use Rattle.state.proofs.Cutting.{over-take, over-drop, over-all, beneath-drop, entriesAt, entries-same, length-entries, stack-taken, stack-dropped, stack-joined, entries-moved}
-use Rattle.state.proofs.Trying.{trying, failed, tried-no, tried-yes, tried-as, aside-above, stack-only, fits-stack, full-stack}
+use Rattle.state.proofs.Trying.{trying, failed, tried-no, tried-yes, tried-as, aside-above, stack-only, fits-stack, full-stack, lent-above}
 use Rattle.state.proofs.Stacking.{above-few, enough, few}
 
 -- ---- a mark put
@@ -104,13 +104,27 @@ module _ {w : List ℕ} {r : Registers} (n : ℕ) (b : Bool) (g : Busy w r) (eb 
           let sm : Same (slots w′) m 128 1814 = rw p (mark-same m a n (c .kind) (omega arith)) in
           let e : r .height + 1 ≡ (a + 1) + n = omega arith in
           let st : stackOf (slots w′) (r .height + 1) ≡ marked (c .kind) = rw (p, e) (mark-stack m a n (c .kind) (omega arith) room) in
-          rw q (tried-yes (omega arith) (aside-above w w′ sm) refl refl
+          rw q (tried-yes (omega (arith, lent-above w w′ (r .depth) (g .depth-fits) sm)) (aside-above w w′ sm) refl refl
           (place-is ∙ fits-stack w r (marked (c .kind)) g (omega (arith, marked-long (c .kind))) ∙ ap some (sym (stack-only w w′ r (r .height + 1) (marked (c .kind)) g sm st))))
 
     pub place-full : {r′ : Registers} → 128 ≤ r .height → r′ ≡ failed r → Tried (place n) w r w r′
     place-full {r′} f q =
         let c = getD (slots w) (1752 + (r .depth - 1)) nil in
         tried-no g (place-is c refl ∙ full-stack w r (marked (c .kind)) (omega (arith, marked-long (c .kind)))) q
+
+-- under no value
+module _ {w : List ℕ} {r : Registers} (g : Busy w r) where
+  none-enough : true ≡ leb 0 (length (above (stackOf (slots w) (r .height))))
+  none-enough = sym (le-leb 0 (length (above (stackOf (slots w) (r .height)))) (omega arith))
+
+  pub bare-full : {r′ : Registers} → 128 ≤ r .height → r′ ≡ failed r → Tried (place 0) w r w r′
+  bare-full f q = place-full 0 true g none-enough refl f q
+
+  pub bare-yes : {w′ : List ℕ} {r′ : Registers} (c : Slot) → c ≡ getD (slots w) (1752 + (r .depth - 1)) nil → r .height < 128 → slots w′ ≡ set (slots w) (r .height) (mk 5 (c .kind) 0 0 0) → r′ ≡ trying r (r .height + 1) (r .depth) (r .used) true → Tried (place 0) w r w′ r′
+  unfolding markPut copied
+  bare-yes c got f p q =
+      let z : r .height - 0 ≡ r .height = omega arith in
+      place-yes 0 true g none-enough refl c got f (rw z p) q
 
 -- ---- UNMARK
 
@@ -205,7 +219,7 @@ module _ {w : List ℕ} {r : Registers} (n : ℕ) (g : Busy w r) where
             ap₂ _++_ (entries-moved m (h - n) a n (omega arith) (inr (omega arith))) (stack-same m′ m a (same-copied m (h - n) a n 0 a (inr (omega arith))))) in
             let len : length l ≤ 128 = omega (arith, ap length st, length-stack m′ (h - 1)) in
             let sm : Same (slots w′) m 128 1814 = rw p (same-copied m (h - n) a n 128 1814 (inl (omega arith))) in
-            rw q (tried-yes (omega arith) (aside-above w w′ sm) refl refl
+            rw q (tried-yes (omega (arith, lent-above w w′ (r .depth) (g .depth-fits) sm)) (aside-above w w′ sm) refl refl
             ((rw (marked-at .1, running-id w r c g has, eq-eqb (v .a) (c .kind) own, eq-eqb n _ all, whole) (fits-stack w r l g len)) ∙
             ap some (sym (stack-only w w′ r (h - 1) l g sm (rw p st)))))
 

@@ -71,6 +71,34 @@ pub fn place(w: &mut [u8], r: Registers, n: usize) -> Registers
     state::stack::failed(r)
 }
 
+// MARK under no value.
+pub fn place_bare(w: &mut [u8], r: Registers) -> Registers
+    requires { ⌜ Busy (now w) r ⌝ }
+    ensures { λ q. ⌜ Tried (place 0) (now (w .entry)) r (now (w .exit)) q ⌝ }
+{
+    let height = r.height;
+    if height >= 128 {
+        return state::stack::failed(r);
+    }
+    let d = r.depth;
+    let c = table::slots::get(w, 1752 + (d - 1));
+    table::slots::put(
+        w,
+        height,
+        Slot {
+            kind: 5,
+            a: c.kind,
+            b: 0,
+            c: 0,
+            d: 0,
+        },
+    );
+    let mut q = r;
+    q.height = height + 1;
+    q.ok = true;
+    q
+}
+
 // UNMARK: the running context's own mark, with exactly n values above it.
 pub fn remove(w: &mut [u8], r: Registers, n: usize) -> Registers
     requires { ⌜ Busy (now w) r ⌝ }

@@ -18,9 +18,9 @@ use Rattle.machine.proofs.Readable.{Whole}
 use Rattle.machine.proofs.Legible.{Legible, legible-preamble, legible-page}
 use Rattle.names.specs.Names.{both}
 use Rattle.state.specs.declared.Registers.{Registers}
-use Rattle.state.specs.Layout.{valuesAt, aside, abs}
+use Rattle.state.specs.Layout.{valuesAt, aside, abs, lent}
 use Rattle.state.specs.Operations.{filled, opening, Opened}
-use Rattle.state.proofs.Parts.{wide, room-of, stack-same, values-same, contexts-same, length-values}
+use Rattle.state.proofs.Parts.{wide, room-of, stack-same, values-same, lent-same, contexts-same, length-values}
 use Rattle.state.proofs.Ending.{state-path}
 use Rattle.state.proofs.Cutting.{values-cut, values-moved}
 use Rattle.state.proofs.Framing.{frame-filled}
@@ -54,13 +54,19 @@ module _ (w w₁ w₂ w₃ w′ : List ℕ) (pre none : List ℕ) (at end allowa
   unfolding preambleEnd
   ended-as = n .does ∙ (rw (started, empty none (sym alone)) (preamble-alone pre allowance zeroFrame []))
 
+  still-lent : lent (slots w′) (q .depth) ≤ q .used
+  still-lent =
+      let m = slots w₃ in
+      let g = n .good in
+      rw p (omega (arith, lent-same (copied m 128 1764 50) m (q .depth) (same-copied m 128 1764 50 1752 _ (inr (omega arith))), g .frames-fit))
+
   same-state : abs w′ q ≡ abs w₃ q
   same-state =
       let m = slots w₃ in
       let g = n .good in
       state-path
       (rw p (stack-same (copied m 128 1764 50) m (q .height) (same-copied m 128 1764 50 0 _ (inr (omega arith)))))
-      (rw p (contexts-same (copied m 128 1764 50) m (q .depth) (same-copied m 128 1764 50 128 _ (inr (omega arith))) (same-copied m 128 1764 50 1752 _ (inr (omega arith)))))
+      (rw p (contexts-same (copied m 128 1764 50) m (q .depth) (q .used) (rw p at still-lent) (g .cells-fit) (same-copied m 128 1764 50 128 _ (inr (omega arith))) (same-copied m 128 1764 50 728 _ (inr (omega arith))) (same-copied m 128 1764 50 1752 _ (inr (omega arith)))))
       (rw p (values-same (copied m 128 1764 50) m 128 50 (same-copied m 128 1764 50 128 _ (inr (omega arith)))))
       (rw p (values-same (copied m 128 1764 50) m 728 (q .used) (same-copied m 128 1764 50 728 _ (inr (omega arith)))))
 
@@ -74,6 +80,7 @@ module _ (w w₁ w₂ w₃ w′ : List ℕ) (pre none : List ℕ) (at end allowa
       let rm : 48000 ≤ length w′ = room-of w′ (copied (slots w₃) 128 1764 50) p (rw length-copied (wide w₃ (g .room))) in
       let c = o .counted in
       let d = n .counted in
+      let l = still-lent in
       record {
         good = omega arith;
         does = same-state ∙ ended-as;

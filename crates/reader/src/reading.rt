@@ -29,7 +29,7 @@ fn cut_off(at: usize) -> Read
 }
 
 // The sequence token at `at`. Most are in a single piece; the data of any other are joined.
-fn sequence_at(s: &[u8], at: usize) -> Read
+pub fn sequence_at(s: &[u8], at: usize) -> Read
     requires { ⌜ at < length (now s) ⌝ }
     ensures { λ r. ⌜ r ≡ sequence (getD (now (s .entry)) at 0 % 32) at (joinedAt (now (s .entry)) at) ⌝ }
 {

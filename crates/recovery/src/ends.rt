@@ -84,7 +84,7 @@ pub fn settle(w: &mut [u8], before: Registers) -> Registers
             return r;
         }
         r.depth = d - 1;
-        if c.d != 1 {
+        if c.d < 4096 {
             continue;
         }
         let height = r.height;

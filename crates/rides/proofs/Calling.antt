@@ -1,10 +1,10 @@
--- DO and MARK in the words of the table, and a step with a literal. Assumes nothing.
-use Prim.Native.Nat.{ℕ, _+_, _-_, _≤_, _<_}
+-- DO in the words of the table, and a step with a literal. Assumes nothing.
+use Prim.Native.Nat.{ℕ, zero, suc, _+_, _-_, _≤_, _<_}
 use native.Mathlib.Omega.{arith}
 use mathlib.Core.Path.{_≡_, refl, ap, sym, _∙_}
 use mathlib.Core.Bool.{true, false}
 use mathlib.Core.List.{List, [], _∷_}
-use mathlib.Core.Option.{none, some}
+use mathlib.Core.Option.{Option, none, some}
 use types.Run.{OneOf}
 use denote.Enum.Declared.{tagOf}
 use Rattle.table.specs.Slots.{slots}
@@ -14,29 +14,23 @@ use Rattle.machine.specs.declared.Literal.{Literal}
 use Rattle.machine.specs.declared.Literal.the-variants.{Plain}
 use Rattle.machine.specs.declared.Effect.the-variants.{Fail, Acts}
 use Rattle.machine.specs.declared.Next.the-variants.{Call}
-use Rattle.machine.specs.declared.Next.the-variants as part
-use Rattle.machine.specs.declared.Op.the-variants.{Calls, OnStack}
-use Rattle.machine.specs.declared.StackOp.the-variants.{Mark}
+use Rattle.machine.specs.declared.Op.the-variants.{Calls}
 use Rattle.machine.specs.declared.CallOp.the-variants.{Do}
 use Rattle.machine.specs.State.{Context, State, running}
 use Rattle.machine.specs.Literal.{Code, bytesOf}
 use Rattle.machine.specs.Operators.{arityOf, effectOf}
-use Rattle.machine.specs.Operand.{cardinal?, asOperator}
+use Rattle.machine.specs.Operand.{asOperator}
 use Rattle.machine.specs.Ops.Call.{called, callEffect}
-use Rattle.machine.specs.Ops.Stack.{stackArity, stackEffect}
 use Rattle.machine.specs.Contexts.{above, fault, settle}
-use Rattle.machine.specs.Engine.{place, call, does}
+use Rattle.machine.specs.Engine.{call, does}
 use Rattle.machine.specs.Step.{execute, executed, begunIn, begun}
-use Rattle.operands.specs.declared.Card.{Card}
-use Rattle.operands.specs.declared.Card.the-variants.{No, Is}
-use Rattle.operands.specs.Operands.{cardOf}
-use Rattle.operands.proofs.Reading.{no-operator, no-card, is-card}
+use Rattle.operands.proofs.Reading.{no-operator}
 use Rattle.machine.proofs.Value.{the-type}
 use Rattle.state.specs.declared.Registers.{Registers}
 use Rattle.state.specs.declared.Tops.{Tops}
 use Rattle.state.specs.Layout.{valueIn, stackOf, abs, Good, Busy, Done, answer, Tried, Begun, Topmost}
 use Rattle.state.proofs.Trying.{trying, failed}
-use Rattle.effects.proofs.Acting.{is-acts, by-call, by-place}
+use Rattle.effects.proofs.Acting.{is-acts, by-call}
 use Rattle.effects.proofs.Executing.{plain-few, plain-done, plain-fails}
 use Rattle.sprints.specs.Swift.{origin, stepped}
 use Rattle.sprints.proofs.Swiftly.{by-number}
@@ -69,33 +63,6 @@ module _ {w : List ℕ} {r : Registers} (code : Code) (t : Tops) (g : Busy w r) 
     do-fails {r′} bad q =
         plain-fails code 231 1 (Calls Do) t g (by-number .6) do-one et x (valueIn (t .second)) h ex refl (calls-nothing x (valueIn (t .second)) bad) q
 
--- ---- MARK
-
-mark-one : (1 ≡ arityOf (OnStack Mark)) × (1 ≤ 2)
-unfolding arityOf stackArity
-mark-one = (refl, omega arith)
-
-module _ (x y : Value) (c : Card) (ec : cardOf c ≡ cardinal? x) where
-  mark-places : (n : ℕ) → c ≡ Is n → Acts (part.Place n) ≡ effectOf (OnStack Mark) x y
-  unfolding effectOf stackEffect
-  mark-places n e = is-card x (λ m. Acts (part.Place m)) ec e
-
-  mark-none : c ≡ No → Fail ≡ effectOf (OnStack Mark) x y
-  unfolding effectOf stackEffect
-  mark-none e = no-card x (λ m. Acts (part.Place m)) ec e
-
-module _ {w : List ℕ} {r : Registers} (code : Code) (t : Tops) (g : Busy w r) (et : Topmost (above (stackOf (slots w) (r .height))) t) where
-  pub mark-few : {r′ : Registers} → t .count < 1 → r′ ≡ failed r → Tried (execute code (Plain 186)) w r w r′
-  mark-few {r′} h q = plain-few code 186 1 (OnStack Mark) t g (by-number .11) mark-one et h q
-
-  module _ (h : 1 ≤ t .count) (x : Value) (ex : x ≡ valueIn (t .first)) (c : Card) (ec : cardOf c ≡ cardinal? x) where
-    pub mark-made : {w′ : List ℕ} {q r′ : Registers} (n k : ℕ) → c ≡ Is n → k ≡ n → q ≡ trying r (r .height - 1) (r .depth) (r .used) (r .ok) → Tried (place k) w q w′ r′ → Tried (execute code (Plain 186)) w r w′ r′
-    mark-made {w′} {q} {r′} n k e ek eq d =
-        plain-done code 186 1 (OnStack Mark) t g (by-number .11) mark-one et x (valueIn (t .second)) (Acts (part.Place n)) h ex refl (mark-places x (valueIn (t .second)) c ec n e) eq (is-acts code (Acts (part.Place n)) (part.Place n) refl (by-place code (part.Place n) n k refl ek d))
-
-    pub mark-fails : {r′ : Registers} → c ≡ No → r′ ≡ failed r → Tried (execute code (Plain 186)) w r w r′
-    mark-fails {r′} e q = plain-fails code 186 1 (OnStack Mark) t g (by-number .11) mark-one et x (valueIn (t .second)) h ex refl (mark-none x (valueIn (t .second)) c ec e) q
-
 -- ---- a step
 
 module _ {w w₁ w₂ : List ℕ} {r s p : Registers} (code : Code) (x : Literal) (m n : ℕ) (em : n ≡ m) (be : Begun n w r w₁ s) (t : Tried (execute code x) w₁ s w₂ p) where
@@ -115,12 +82,25 @@ module _ {w w₁ w₂ : List ℕ} {r s p : Registers} (code : Code) (x : Literal
       let z : abs w₂ (stepped r (r .height)) ≡ abs w₁ s = rw (t .back o, be .registers) in
       record { good = d .good; does = d .does ∙ ap fault z ∙ (rw (began, ← e)); keeps = d .keeps ∙ (t .keeps ∙ be .keeps); counted = d .counted }
 
--- a literal that failed within the step
-pub good-after : {w w₁ : List ℕ} {r s : Registers} → Good w r → Busy w₁ s → Good w₁ (stepped r (r .height)) × (r .errors < r .steps + 1)
-good-after g b = (record { room = b .room; stack-fits = g .stack-fits; depth-fits = g .depth-fits; cells-fit = g .cells-fit; errors-fit = omega (arith, g .errors-fit) }, omega (arith, g .errors-fit))
-
 pub settles : {w : List ℕ} {r : Registers} → Busy w r → Good w r × (r .errors < r .steps)
-settles b = (record { room = b .room; stack-fits = b .stack-fits; depth-fits = b .depth-fits; cells-fit = b .cells-fit; errors-fit = omega (arith, b .errors-fit) }, b .errors-fit)
+settles b = (record { room = b .room; stack-fits = b .stack-fits; depth-fits = b .depth-fits; cells-fit = b .cells-fit; frames-fit = b .frames-fit; errors-fit = omega (arith, b .errors-fit) }, b .errors-fit)
+
+-- bytes are those of some code
+codeOf : ℕ → List ℕ → Code
+codeOf zero b = b ∷ []
+codeOf (suc n) b = [] ∷ codeOf n b
+
+some-code : (n : ℕ) (b : List ℕ) → b ≡ bytesOf (codeOf n b) n
+unfolding codeOf
+some-code zero b = refl
+some-code (suc n) b = some-code n b
+
+-- a step that has failed may recover
+pub faults : {f : State → Option State} {w w₁ w₂ : List ℕ} {r s p : Registers} (n : ℕ) → Begun n w r w₁ s → Tried f w₁ s w₂ p → p .ok ≡ false → Good w₂ (stepped r (r .height)) × (r .errors < r .steps + 1)
+faults n be t o = let b = be .busy in rw (t .back o) (settles (rw (be .registers) at b))
+
+pub faults-within : {w w₁ w₂ b : List ℕ} {r s p : Registers} (f : Code → State → Option State) (n o : ℕ) → Begun n w r w₁ s → ((code : Code) → b ≡ bytesOf code o → Tried (f code) w₁ s w₂ p) → p .ok ≡ false → Good w₂ (stepped r (r .height)) × (r .errors < r .steps + 1)
+faults-within {b} f n o be t k = faults n be (t (codeOf o b) (some-code o b)) k
 
 -- the body in which a step begins has the bytes that it had
 begun-by : (n : ℕ) (s : State) (cs : List Context) → s .contexts ≡ cs → running (begunIn n cs s .contexts) .origin ≡ running cs .origin

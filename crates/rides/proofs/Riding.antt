@@ -15,16 +15,13 @@ use Rattle.tokens.specs.declared.Read.the-variants as read
 use Rattle.tokens.specs.Token.{tokenAt}
 use Rattle.machine.specs.declared.Literal.{Literal}
 use Rattle.machine.specs.declared.Literal.the-variants.{Plain, WithBody}
-use Rattle.machine.specs.declared.Op.{Op}
-use Rattle.machine.specs.declared.Op.the-variants.{Calls, OnStack}
-use Rattle.machine.specs.declared.StackOp.the-variants.{Mark}
+use Rattle.machine.specs.declared.Op.the-variants.{Calls}
 use Rattle.machine.specs.declared.CallOp.the-variants.{Do}
 use Rattle.machine.specs.declared.Role.the-variants as role
 use Rattle.machine.specs.declared.Went.the-variants.{Past}
 use Rattle.machine.specs.Limits.{mostOpen}
 use Rattle.machine.specs.Skeleton.{roleOf, solid, bodyAt}
 use Rattle.machine.specs.Literal.{Code, bytesOf, Found, holdingBy, holdingAt, operatorBy, foundBy, foundAt}
-use Rattle.machine.specs.Operators.{opOf}
 use Rattle.machine.specs.Contexts.{settle}
 use Rattle.machine.specs.Step.{execute, executed, begun, step, run}
 use Rattle.machine.proofs.Inside.{token-inside}
@@ -41,11 +38,12 @@ use Rattle.origins.proofs.ByOrigin.{nothing-there}
 use Rattle.literals.proofs.Standing.{solid-body, stands-solid}
 use Rattle.nesting.proofs.BodyTurns.{stands-at}
 use Rattle.numbers.proofs.Cond.{split}
+use Rattle.effects.proofs.Acting.{marks-low}
 use Rattle.contexts.proofs.Entering.{begin-done}
 use Rattle.sprints.specs.declared.Reach.{Reach}
-use Rattle.sprints.specs.Swift.{origin, ending, ahead, lifted, LiteralsLeft, Rowed}
+use Rattle.sprints.specs.Swift.{marked, origin, ending, ahead, lifted, LiteralsLeft, Rowed}
 use Rattle.sprints.proofs.Ahead.{moved-same, execute-free, begun-is, ended-ahead, settle-ahead, due-ahead, step-ahead}
-use Rattle.sprints.proofs.Swiftly.{known, op-role, by-number, not-ended, run-last, none-run, good-as}
+use Rattle.sprints.proofs.Swiftly.{op-role, by-number, not-ended, run-last, none-run, good-as}
 use Rattle.rides.specs.declared.Further.{Further}
 use Rattle.rides.specs.declared.Seat.{Seat}
 use Rattle.rides.specs.Rides.{Paced, Alighted, Led, PastHeld}
@@ -59,7 +57,11 @@ held r = record { height = r .height; depth = r .depth; used = r .used; steps = 
 
 pub busy-held : {w : List ℕ} {r : Registers} (most : ℕ) → Good w r → 0 < r .depth → r .steps + most ≤ 1000000 → Busy w (held r)
 busy-held most g d h =
-    record { room = g .room; stack-fits = g .stack-fits; depth-fits = g .depth-fits; runs = d; cells-fit = g .cells-fit; errors-fit = omega (arith, g .errors-fit); steps-fit = omega arith }
+    record { room = g .room; stack-fits = g .stack-fits; depth-fits = g .depth-fits; runs = d; cells-fit = g .cells-fit; frames-fit = g .frames-fit; errors-fit = omega (arith, g .errors-fit); steps-fit = omega arith }
+
+-- marks stand lower than two above the stack
+pub low-held : (w : List ℕ) (r : Registers) → marked w (r .height) ≤ r .height + 2
+low-held w r = omega (arith, marks-low (slots w) (r .height))
 
 pub seat-is : (w : List ℕ) (depth : ℕ) (c : Slot) (at end : ℕ) → 0 < depth → c ≡ getD (slots w) (1752 + (depth - 1)) nil → at ≡ c .b → end ≡ c .c
     → (c .a ≡ origin w depth) × (at ≡ running (contextsOf (slots w) depth) .at) × (end ≡ ending w depth)
@@ -96,7 +98,7 @@ module _ (w w₁ : List ℕ) (r : Registers) (p at end : ℕ) (g : Good w r) (ru
   there = rw (← ep) (goes-ahead w w₁ r at (r .steps) g runs few moves (r .ok))
 
   pub good-there : Good w₁ r
-  good-there = record { room = omega (arith, g .room, long); stack-fits = g .stack-fits; depth-fits = g .depth-fits; cells-fit = g .cells-fit; errors-fit = g .errors-fit }
+  good-there = record { room = omega (arith, g .room, long); stack-fits = g .stack-fits; depth-fits = g .depth-fits; cells-fit = g .cells-fit; frames-fit = goes w w₁ r at 0 g runs few moves .busy .frames-fit; errors-fit = g .errors-fit }
 
   kept : aside w₁ ≡ aside w
   kept = goes w w₁ r at 0 g runs few moves .keeps
@@ -131,16 +133,10 @@ module _ (w w₁ : List ℕ) (r : Registers) (p at end : ℕ) (g : Good w r) (ru
 pub found-as : (f : Found) (n m : ℕ) → f .next ≡ n → m ≡ n → f ≡ record { literal = f .literal; next = m }
 found-as f n m e em = λ i. record { literal = f .literal; next = (e ∙ sym em) i }
 
--- an operator of the table at a place
-plain-there : (b : List ℕ) (at n next m k : ℕ) (o : Op) → tokenAt b at ≡ read.Operator n next → n ≡ k → m ≡ solid b next → o ≡ opOf k → known o ≡ true → foundAt b at ≡ record { literal = Plain k; next = m }
-unfolding foundAt foundBy operatorBy
-plain-there b at n next m k o e z em eo h = rw (e, z, em, op-role k o eo h)
-
+-- DO at a place
 pub do-found : (b : List ℕ) (at n next m : ℕ) → tokenAt b at ≡ read.Operator n next → n ≡ 231 → m ≡ solid b next → foundAt b at ≡ record { literal = Plain 231; next = m }
-do-found b at n next m e z em = plain-there b at n next m 231 (Calls Do) e z em (by-number .6) refl
-
-pub mark-found : (b : List ℕ) (at n next m : ℕ) → tokenAt b at ≡ read.Operator n next → n ≡ 186 → m ≡ solid b next → foundAt b at ≡ record { literal = Plain 186; next = m }
-mark-found b at n next m e z em = plain-there b at n next m 186 (OnStack Mark) e z em (by-number .11) refl
+unfolding foundAt foundBy operatorBy
+do-found b at n next m e z em = rw (e, z, em, op-role 231 (Calls Do) (by-number .6) refl)
 
 -- an operator with its body
 held-found : (b : List ℕ) (at n next end : ℕ) → tokenAt b at ≡ read.Operator n next → roleOf n ≡ role.Holds → bodyAt mostOpen b next ≡ Past end
@@ -217,7 +213,7 @@ module _ {code : Code} {b w w₁ : List ℕ} {r : Registers} {at most : ℕ} {t 
   o = ρ .row
 
   pub good-row : (k : Bool) → Good w₁ (after r most t k)
-  good-row k = record { room = omega (arith, g .room, o .long); stack-fits = o .fits; depth-fits = g .depth-fits; cells-fit = g .cells-fit; errors-fit = omega (arith, g .errors-fit) }
+  good-row k = record { room = omega (arith, g .room, o .long); stack-fits = o .fits; depth-fits = g .depth-fits; cells-fit = g .cells-fit; frames-fit = o .frames; errors-fit = omega (arith, g .errors-fit) }
 
   pub bytes-row : b ≡ bytesOf code (origin w₁ (r .depth))
   bytes-row = rw (o .stays) eb
@@ -250,6 +246,7 @@ module _ {code : Code} {b w w₁ : List ℕ} {r : Registers} {at most : ℕ} {t 
       fits = o .fits;
       keeps = o .keeps;
       long = o .long;
+      frames = o .frames;
       stays = o .stays;
       ends = o .ends;
       idle = λ e. o .idle (omega (arith, go .fewer, few));

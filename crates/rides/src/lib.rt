@@ -1,5 +1,5 @@
-// A row of literals, and the step that ends it: the end of the body, a literal that fails, MARK, or an operator that enters a body or passes
-// over one, each in line. Any other literal is left to `engine`.
+// A row of literals, and the step that ends it: the end of the body, a literal that fails, or an operator that enters a body or passes over
+// one, each in line. Any other literal is left to `engine`.
 ghost use mathlib.Core.Path.{_≡_};
 ghost use mathlib.Core.Bool.{true, false};
 ghost use mathlib.Core.List.{[], _∷_};
@@ -101,43 +101,6 @@ fn pace_do<'a>(w: &mut [u8], r: Registers, pre: &'a [u8], body: &'a [u8], next: 
 {
     let s = contexts::bodies::begin(w, r, table::words::word(next));
     let p = run_operator(w, s, pre, body);
-    if p.ok {
-        return recovery::ends::settle(w, p);
-    }
-    let mut q = r;
-    q.steps = r.steps + 1;
-    recovery::ends::fault(w, q)
-}
-
-// ---- MARK
-
-// A mark of the running context under as many values as the topmost one says.
-fn mark(w: &mut [u8], r: Registers) -> Registers
-    requires { ⌜ Busy (now w) r ⌝ }
-    ensures { λ q. ⌜ ((code : Code) → Tried (execute code (Plain 186)) (now (w .entry)) r (now (w .exit)) q) ⌝ }
-{
-    let t = state::stack::tops(w, r.height);
-    if t.count < 1 {
-        return state::stack::failed(r);
-    }
-    let x = state::values::value_of(t.first);
-    match operands::values::cardinal(x) {
-        Card::No => state::stack::failed(r),
-        Card::Is(n) => {
-            let mut q = r;
-            q.height = r.height - 1;
-            marks::place(w, q, table::words::size(n))
-        }
-    }
-}
-
-// A step with MARK, after which its body goes on at `next`.
-fn pace_mark(w: &mut [u8], r: Registers, next: usize) -> Registers
-    requires { ⌜ Good (now w) r × (0 < r .depth) × (r .steps < 4294967295) × (next < 4294967296) ⌝ }
-    ensures { λ q. ⌜ ((code : Code) → Paced code (Plain 186) next (now (w .entry)) r (now (w .exit)) q) ⌝ }
-{
-    let s = contexts::bodies::begin(w, r, table::words::word(next));
-    let p = mark(w, s);
     if p.ok {
         return recovery::ends::settle(w, p);
     }
@@ -297,7 +260,8 @@ pub fn ride<'a>(
 {
     let s = seat_of(w, r.depth);
     let b = origins::bytes_of(pre, body, s.origin);
-    let t = sprints::row(w, rowing(r), b, s.at, s.end, most, r.height);
+    // two more than need be, so that a mark on what the row begins with is placed within it
+    let t = sprints::row(w, rowing(r), b, s.at, s.end, most, r.height + 2);
     let mut q = r;
     q.height = t.height;
     q.steps = r.steps + (most - t.left);
@@ -309,11 +273,6 @@ pub fn ride<'a>(
     }
     if t.number == 231 {
         let mut z = pace_do(w, q, pre, body, nesting::bodies::past_comments(b, t.next));
-        z.ok = false;
-        return z;
-    }
-    if t.number == 186 {
-        let mut z = pace_mark(w, q, nesting::bodies::past_comments(b, t.next));
         z.ok = false;
         return z;
     }

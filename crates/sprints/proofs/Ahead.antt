@@ -1,5 +1,5 @@
--- A literal that makes no cells, enters no body and places no mark does the same wherever its body goes on and however many steps are
--- counted. In order: contexts moved; effects; a step; what the table says. Assumes nothing.
+-- A literal that makes no cells and enters no body does the same wherever its body goes on and however many steps are counted. In order:
+-- contexts moved; effects; a step; what the table says. Assumes nothing.
 use Prim.Native.Nat.{ℕ, suc, _<_}
 use mathlib.Core.Path.{_≡_, refl, sym, ap, _∙_}
 use mathlib.Core.Bool.{Bool, true, false, cond, not, _&&_}
@@ -20,7 +20,7 @@ use Rattle.machine.specs.State.{Entry, val, mark, Context, State, running}
 use Rattle.machine.specs.Literal.{Code, bytesOf, Found, foundAt}
 use Rattle.machine.specs.Operators.{popped}
 use Rattle.machine.specs.Contexts.{atEnd, leaveAt, leave, settle}
-use Rattle.machine.specs.Engine.{fits, limited, provided, withStack, withContexts, pops, push, repeat, turn, worked, lastFrame, noted, storeIn, store, removeAt, remove, tallyAt, tally, does, affected}
+use Rattle.machine.specs.Engine.{fits, limited, provided, withStack, withContexts, pops, push, repeat, turn, worked, lastFrame, noted, storeIn, store, place, removeAt, remove, tallyAt, tally, does, affected}
 use Rattle.machine.specs.Step.{effectAt, execute, executed, isUnmark0, literalStep, begunIn, begun, ended, stepBy, dueIn, step}
 use Rattle.state.proofs.Ending.{not-on}
 use Rattle.sprints.specs.Swift.{movedTo, ahead, onto}
@@ -120,6 +120,10 @@ module _ (code : Code) (p n : ℕ) where
   tallied-free id k (val v ∷ t) s = refl
   tallied-free id k (mark m ∷ t) s = provided-free _ _ _ (push-free _ s)
 
+  placed-free : (k : ℕ) (s : State) → place k (ahead p n s) ≡ onto p n (place k s)
+  unfolding place
+  placed-free k s = rw (moved-id p (s .contexts)) (provided-free _ _ _ (limited-free _))
+
   does-free : (x : Next) → flatNext x ≡ true → (s : State) → does code x (ahead p n s) ≡ onto p n (does code x s)
   unfolding does store remove tally
   does-free (Works x) f s = worked-free x f s
@@ -140,6 +144,15 @@ module _ (code : Code) (p n : ℕ) where
   pub execute-free : (x : Literal) (s : State) → flat (effectAt x s) ≡ true → execute code x (ahead p n s) ≡ onto p n (execute code x s)
   unfolding execute effectAt pops
   execute-free x s f = provided-free _ _ _ (affected-free (effectAt x s) f (pops (popped x) s))
+
+  marked-free : (k : ℕ) (e : Effect) → e ≡ Acts (Place k) → (s : State) → affected code e (ahead p n s) ≡ onto p n (affected code e s)
+  unfolding affected does
+  marked-free k e i s = rw i (placed-free k s)
+
+  -- a mark placed
+  pub mark-free : (k : ℕ) (x : Literal) (s : State) → effectAt x s ≡ Acts (Place k) → execute code x (ahead p n s) ≡ onto p n (execute code x s)
+  unfolding execute effectAt pops
+  mark-free k x s e = provided-free _ _ _ (marked-free k (effectAt x s) e (pops (popped x) s))
 
 -- ---- a step
 

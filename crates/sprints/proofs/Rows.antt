@@ -1,90 +1,51 @@
 -- Several literals in a row, their place and their steps not yet in the table. In order: a literal; a row, a literal at a time; the row put
 -- into the table. Assumes nothing.
-use Prim.Native.Nat.{ℕ, suc, _+_, _-_, _≤_, _<_}
+use Prim.Native.Nat.{ℕ, suc, _+_, _-_, _%_, _≤_, _<_}
 use native.Mathlib.Omega.{arith}
 use mathlib.Core.Path.{_≡_, refl, sym, ap, _∙_}
-use mathlib.Core.Bool.{Bool, true, false, not}
+use mathlib.Core.Bool.{Bool, true, false}
 use mathlib.Core.List.{List, []}
 use mathlib.Core.Option.{none}
 use lib.ListN.{length, getD}
 use Rattle.table.specs.declared.Slot.{Slot}
 use Rattle.table.specs.Slots.{slots, nil}
+use Rattle.numbers.specs.declared.Number as num
 use Rattle.tokens.specs.declared.Read.{Read}
 use Rattle.tokens.specs.declared.Read.the-variants as read
 use Rattle.tokens.specs.declared.Form.{Form}
 use Rattle.tokens.specs.declared.Form.the-variants as form
-use Rattle.tokens.specs.Token.{tokenAt}
+use Rattle.tokens.specs.Joined.{joinedAt}
+use Rattle.tokens.specs.Token.{judged, sequence, tokenAt}
 use Rattle.tokens.specs.Passing.{Shows}
-use Rattle.tokens.proofs.Theorems.{token-end}
-use Rattle.machine.specs.declared.Role.{Role}
-use Rattle.machine.specs.declared.Role.the-variants as role
-use Rattle.machine.specs.declared.Went.{Went}
-use Rattle.machine.specs.declared.Went.the-variants.{Past, Stop}
-use Rattle.machine.specs.Limits.{mostOpen}
 use Rattle.machine.specs.declared.Literal.{Literal}
+use Rattle.machine.specs.declared.Literal.the-variants.{Figure, Name}
 use Rattle.machine.specs.State.{Context, State, running}
-use Rattle.machine.specs.Skeleton.{roleOf, solid, bodyAt}
-use Rattle.machine.specs.Literal.{Code, bytesOf, nothingAt, holdingBy, holdingAt, operatorBy, foundBy, foundAt}
+use Rattle.machine.specs.Skeleton.{solid}
+use Rattle.machine.specs.Literal.{Code, bytesOf, foundBy, foundAt}
 use Rattle.machine.specs.Contexts.{settle}
 use Rattle.machine.specs.Step.{execute, step, run}
 use Rattle.machine.proofs.Comments.{NoComment, none-at, solid-is}
 use Rattle.nesting.proofs.BodyTurns.{stands-at, number-shown, operator-shown}
-use Rattle.literals.specs.declared.Due.{Due}
-use Rattle.literals.specs.Dues.{Is}
-use Rattle.literals.proofs.Standing.{solid-again, stands-reads}
+use Rattle.literals.proofs.Standing.{stands-reads}
 use Rattle.literals.proofs.Passing.{solid-inside}
-use Rattle.origins.proofs.ByOrigin.{next-inside}
 use Rattle.state.specs.declared.Registers.{Registers}
 use Rattle.state.specs.Layout.{contextsOf, contextAt, contextIn, aside, abs, Busy, answer}
 use Rattle.state.proofs.Parts.{contexts-top, contexts-at}
 use Rattle.state.proofs.Ending.{not-on}
 use Rattle.sprints.specs.declared.Stride.{Stride}
 use Rattle.machine.proofs.Literals.{First, first}
+use Rattle.machine.proofs.Inside.{token-inside}
 use Rattle.passing.specs.Known.{Reads}
+use Rattle.passing.proofs.Knowing.{joins}
 use Rattle.sprints.specs.Swift.{TokenThere, LiteralsLeft, marked, raised, origin, ending, ahead, Flat, Strides, lifted, Rowed}
 use Rattle.sprints.proofs.Ahead.{ended-ahead, settle-ahead, step-ahead}
-use Rattle.sprints.proofs.Level.{stays-none}
+use Rattle.sprints.proofs.Level.{stays-none, stays-higher, flat-higher}
 use Rattle.sprints.proofs.Swiftly.{run-last, none-run}
 
 -- ---- a place past comments
 
-end-stands : (b : List ℕ) → length b ≡ solid b (length b)
-end-stands b = stands-at b (length b) (rw (token-end b (length b) (omega arith)) tt)
-
-held-stands : (b : List ℕ) (n start : ℕ) (x : Went) → holdingBy b n start x .next ≡ solid b (holdingBy b n start x .next)
-unfolding holdingBy nothingAt
-held-stands b n start (Past next) = solid-again b next
-held-stands b n start (Stop refusal place) = end-stands b
-
-role-stands : (b : List ℕ) (n next : ℕ) (x : Role) → operatorBy x b n next .next ≡ solid b (operatorBy x b n next .next)
-unfolding operatorBy holdingAt nothingAt
-role-stands b n next role.Plain = solid-again b next
-role-stands b n next role.Holds = held-stands b n _ (bodyAt mostOpen b next)
-role-stands b n next role.Closes = end-stands b
-role-stands b n next role.Barred = end-stands b
-
-token-stands : (b : List ℕ) (at : ℕ) (t : Read) → foundBy b at t .next ≡ solid b (foundBy b at t .next)
-unfolding foundBy nothingAt
-token-stands b at (read.Number value next) = solid-again b next
-token-stands b at (read.Identifier len next) = solid-again b next
-token-stands b at (read.String count next) = solid-again b next
-token-stands b at (read.Operator n next) = role-stands b n next (roleOf n)
-token-stands b at (read.Comment next) = end-stands b
-token-stands b at (read.Unread r p) = end-stands b
-
-found-stands : (b : List ℕ) (at : ℕ) → foundAt b at .next ≡ solid b (foundAt b at .next)
-unfolding foundAt
-found-stands b at = token-stands b at (tokenAt b at)
-
 pub place-fits : (b : List ℕ) (at p : ℕ) → p ≡ solid b at → at ≤ length b → length b ≤ 16777215 → p < 4294967296
 place-fits b at p e i l = omega (arith, e, solid-inside b at i)
-
-module _ (b : List ℕ) (at : ℕ) (d : Due) (i : Is (foundAt b at) d) where
-  pub due-stands : d .next ≡ solid b (d .next)
-  due-stands = rw (i .next) (found-stands b at)
-
-  pub due-inside : d .next ≤ length b
-  due-inside = omega (arith, i .next, next-inside b at)
 
 module _ (b : List ℕ) (at : ℕ) (f : Form) (h : Shows b at f) where
   pub number-none : (raw next : ℕ) → f ≡ form.Number raw next → NoComment (tokenAt b at)
@@ -99,10 +60,6 @@ operator-solid b at n next e = rw e tt
 pub ends-at : (w : List ℕ) (depth : ℕ) (c : Slot) → 0 < depth → c ≡ getD (slots w) (1752 + (depth - 1)) nil → c .c ≡ ending w depth
 unfolding running contextIn
 ends-at w depth c h e = sym (ap (λ (l : List Context). running l .end) (contexts-at (slots w) depth c h e))
-
-pub is-on : (b : Bool) → not b ≡ false → b ≡ true
-is-on true e = refl
-is-on false e = not-on (sym e)
 
 -- ---- bytes that have been judged
 
@@ -126,7 +83,7 @@ module _ {b : List ℕ} {at end : ℕ} (h : LiteralsLeft b at end) where
 
 -- ---- a literal
 
-pub strides-none : {b w : List ℕ} {r : Registers} (at p : ℕ) (t : Stride) → t ≡ record { height = 129; next = p; number = 0 } → Strides b at w r w t
+pub strides-none : {top : ℕ} {b w : List ℕ} {r : Registers} (at p : ℕ) (t : Stride) → t ≡ record { height = 129; next = p; number = 0 } → Strides top b at w r w t
 strides-none at p t e =
     let h : t .height ≡ 129 = ap (λ (x : Stride). x .height) e in
     record {
@@ -139,9 +96,9 @@ strides-none at p t e =
       does = λ k. absurd (k h);
     }
 
-module _ {b w w′ : List ℕ} {r : Registers} (at h next m n : ℕ) (x : Literal) where
-  pub strides-of : ((h ≡ 129 → ⊥) → foundAt b at ≡ record { literal = x; next = m }) → m ≡ solid b next → next ≤ length b → NoComment (tokenAt b at) → ((n ≡ 0 → ⊥) → tokenAt b at ≡ read.Operator n next) → ((code : Code) → Flat (execute code x) w r w′ h)
-      → Strides b at w r w′ (record { height = h; next = next; number = n })
+module _ {top : ℕ} {b w w′ : List ℕ} {r : Registers} (at h next m n : ℕ) (x : Literal) where
+  pub strides-of : ((h ≡ 129 → ⊥) → foundAt b at ≡ record { literal = x; next = m }) → m ≡ solid b next → next ≤ length b → NoComment (tokenAt b at) → ((n ≡ 0 → ⊥) → tokenAt b at ≡ read.Operator n next) → ((code : Code) → Flat top (execute code x) w r w′ h)
+      → Strides top b at w r w′ (record { height = h; next = next; number = n })
   strides-of found em i nc told f =
       record {
         stays = f [] .stays;
@@ -153,20 +110,50 @@ module _ {b w w′ : List ℕ} {r : Registers} (at h next m n : ℕ) (x : Litera
         does = λ k code. rw (found k) (f code);
       }
 
+-- a name and a number of several bytes, by their tokens
+module _ {top : ℕ} {b w w′ : List ℕ} {r : Registers} (at h next : ℕ) where
+  pub strides-name : (len s l : ℕ) → tokenAt b at ≡ read.Identifier len next → s ≡ at → l ≡ len → ((code : Code) → Flat top (execute code (Name s l)) w r w′ h) → Strides top b at w r w′ (record { height = h; next = next; number = 0 })
+  unfolding foundAt foundBy
+  strides-name len s l e es el f = strides-of at h next (solid b next) 0 (Name s l) (λ _. rw (e, es, el)) refl ((rw e at (token-inside b at)) .1) (rw e tt) (λ k. absurd (k refl)) f
+
+  pub strides-figure : (a : num.Number) → tokenAt b at ≡ read.Number a next → ((code : Code) → Flat top (execute code (Figure a)) w r w′ h) → Strides top b at w r w′ (record { height = h; next = next; number = 0 })
+  unfolding foundAt foundBy
+  strides-figure a e f = strides-of at h next (solid b next) 0 (Figure a) (λ _. rw e) refl ((rw e at (token-inside b at)) .1) (rw e tt) (λ k. absurd (k refl)) f
+
+-- the token of a sequence, as the reader of sequences tells it
+pub sequence-read : (b : List ℕ) (at : ℕ) → 192 ≤ getD b at 0 → Reads (tokenAt b at) → (t u : Read) → t ≡ sequence (getD b at 0 % 32) at (joinedAt b at) → t ≡ u → tokenAt b at ≡ u
+unfolding sequence
+sequence-read b at high h t u e f =
+    let j = joins b at high h in
+    let k : t ≡ judged (getD b at 0 % 32) at (j .data-are) (j .next) = rw (j .joined) at e in
+    j .token ∙ sym k ∙ f
+
+-- marks may stand higher
+pub strides-higher : {top more : ℕ} {b w w′ : List ℕ} {r : Registers} {at : ℕ} {t : Stride} → top ≤ more → Strides top b at w r w′ t → Strides more b at w r w′ t
+strides-higher l d = record {
+  stays = stays-higher l (d .stays);
+  back = d .back;
+  token = d .token;
+  next = d .next;
+  inside = d .inside;
+  told = d .told;
+  does = λ k code. flat-higher l (d .does k code);
+}
+
 pub fallen : (h : ℕ) → h ≡ 130 → h ≡ 129 → ⊥
 fallen h e z = omega arith
 
 -- ---- a row
 
 busy-as : {w : List ℕ} (r : Registers) (h : ℕ) → Busy w (raised r h) → Busy w (lifted r h)
-busy-as r h g = record { room = g .room; stack-fits = g .stack-fits; depth-fits = g .depth-fits; runs = g .runs; cells-fit = g .cells-fit; errors-fit = g .errors-fit; steps-fit = g .steps-fit }
+busy-as r h g = record { room = g .room; stack-fits = g .stack-fits; depth-fits = g .depth-fits; runs = g .runs; cells-fit = g .cells-fit; frames-fit = g .frames-fit; errors-fit = g .errors-fit; steps-fit = g .steps-fit }
 
 module _ (code : Code) (b w : List ℕ) (r : Registers) (p n k : ℕ) (S : State) (runs : 0 < r .depth) (quiet : r .skipping ≡ false) where
   -- one literal more
-  row-step : {w′ : List ℕ} (t : Stride) → b ≡ bytesOf code (origin w (r .depth)) → Strides b p w r w′ t → t .height ≤ 128 → (NoComment (tokenAt b p) → run k code S ≡ ahead p (n + k) (abs w r))
+  row-step : {top : ℕ} {w′ : List ℕ} (t : Stride) → b ≡ bytesOf code (origin w (r .depth)) → Strides top b p w r w′ t → t .height ≤ 128 → (NoComment (tokenAt b p) → run k code S ≡ ahead p (n + k) (abs w r))
       → run (suc k) code S ≡ settle (ahead (solid b (t .next)) (n + suc k) (abs w′ (lifted r (t .height))))
   unfolding answer
-  row-step {w′} t eb d few on =
+  row-step {w′ = w′} t eb d few on =
       let m = slots w in
       let c = contextAt m (r .depth - 1) in
       let cs = contextsOf m (r .depth - 1) in
@@ -223,6 +210,9 @@ module _ {b w₀ w : List ℕ} {r₀ r : Registers} {at most clear p left : ℕ}
   deep : r .depth ≡ r₀ .depth
   deep = ap (λ (x : Registers). x .depth) (o .same)
 
+  used-still : r .used ≡ r₀ .used
+  used-still = ap (λ (x : Registers). x .used) (o .same)
+
   pub still : r .skipping ≡ false
   still = ap (λ (x : Registers). x .skipping) (o .same) ∙ quiet
 
@@ -238,6 +228,7 @@ module _ {b w₀ w : List ℕ} {r₀ r : Registers} {at most clear p left : ℕ}
         fits = o .busy .stack-fits;
         keeps = o .keeps;
         long = o .long;
+        frames = rw (deep, used-still) at (o .busy .frames-fit);
         stays = o .here;
         ends = o .ends;
         idle = o .idle;
@@ -246,7 +237,7 @@ module _ {b w₀ w : List ℕ} {r₀ r : Registers} {at most clear p left : ℕ}
         does = λ h. rw (← (o .same)) (o .off code n eb h);
       })
 
-  module _ {w′ : List ℕ} (t : Stride) (d : Strides b p w r w′ t) (few : t .height ≤ 128) (more : 0 < left) where
+  module _ {w′ : List ℕ} (t : Stride) (d : Strides clear b p w r w′ t) (few : t .height ≤ 128) (more : 0 < left) where
     done : t .height ≡ 129 → ⊥
     done z = omega arith
 
@@ -275,7 +266,7 @@ module _ {b w₀ w : List ℕ} {r₀ r : Registers} {at most clear p left : ℕ}
           keeps = d .stays .keeps few ∙ o .keeps;
           here = stays-there;
           ends = ends-there;
-          low = omega (arith, d .stays .low few, o .low);
+          low = d .stays .low few;
           within = omega (arith, o .within);
           idle = λ h. absurd (omega (arith, o .within));
           inside = λ h. d .inside done;
@@ -292,6 +283,7 @@ module _ {b w₀ w : List ℕ} {r₀ r : Registers} {at most clear p left : ℕ}
           fits = few;
           keeps = d .stays .keeps few ∙ o .keeps;
           long = long ∙ o .long;
+          frames = rw (deep, used-still) at (d .does done [] .made few .busy .frames-fit);
           stays = stays-there;
           ends = ends-there;
           idle = λ h. absurd (omega (arith, o .within));

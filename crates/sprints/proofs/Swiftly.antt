@@ -5,7 +5,7 @@ use mathlib.Core.Path.{_≡_, refl, sym, ap, _∙_}
 use mathlib.Core.Bool.{Bool, true, false, cond, not, _&&_, _||_}
 use mathlib.Core.Logic.{inl, inr}
 use mathlib.Core.List.{List, [], _∷_}
-use mathlib.Core.Option.{none, some}
+use mathlib.Core.Option.{Option, none, some}
 use types.Run.{OneOf, miss}
 use borrow.Author.Tests.{le-leb, eqb-true, ltb-true, ltb-false}
 use lib.Dec.{eqb, ltb}
@@ -32,7 +32,7 @@ use Rattle.machine.specs.declared.Literal.{Literal}
 use Rattle.machine.specs.declared.Literal.the-variants.{Figure, Name, Plain}
 use Rattle.machine.specs.declared.Effect.{Effect}
 use Rattle.machine.specs.declared.Effect.the-variants.{Fail, Gives, Acts}
-use Rattle.machine.specs.declared.Next.the-variants.{Works, Remove, Tally}
+use Rattle.machine.specs.declared.Next.the-variants.{Works, Place, Remove, Tally}
 use Rattle.machine.specs.declared.Work.the-variants.{Nothing, Repeat, Turn}
 use Rattle.machine.specs.declared.Op.{Op}
 use Rattle.machine.specs.declared.Op.the-variants.{OnVectors, OnFrame, Calls, OnStack, Tests, Reckons, Unknown}
@@ -52,7 +52,7 @@ use Rattle.machine.specs.Literal.{Code, Found, foundBy, foundAt}
 use Rattle.machine.specs.Operators.{opOf, opIn, operators, arityOf, effectOf, popped, performed}
 use Rattle.machine.specs.Ops.Frame.{frameArity, frameEffect}
 use Rattle.machine.specs.Ops.Stack.{stackArity, stackEffect}
-use Rattle.machine.specs.Operand.{asNumber, answered}
+use Rattle.machine.specs.Operand.{asNumber, cardinal?, answered}
 use Rattle.machine.specs.Ops.Arith.{arithArity, ofTwo, arithEffect}
 use Rattle.machine.specs.Ops.Test.{testArity, testEffect}
 use Rattle.machine.specs.Ops.Vector.{vectorArity, vectorEffect}
@@ -60,6 +60,10 @@ use Rattle.machine.specs.Contexts.{above, fault}
 use Rattle.machine.specs.Engine.{provided, pops, repeat, turn, worked, place, remove, tally, does, affected, push}
 use Rattle.machine.specs.Step.{effectAt, execute, executed, isUnmark0, literalStep, stepBy, dueIn, step, run, ended}
 use Rattle.machine.proofs.Inside.{token-inside}
+use Rattle.operands.specs.declared.Card.{Card}
+use Rattle.operands.specs.declared.Card.the-variants as card
+use Rattle.operands.specs.Operands.{cardOf}
+use Rattle.operands.proofs.Reading.{is-card}
 use Rattle.literals.specs.declared.Due.{Due}
 use Rattle.literals.specs.Dues as dues
 use Rattle.state.specs.declared.Registers.{Registers}
@@ -69,10 +73,10 @@ use Rattle.state.proofs.Parts.{contexts-top}
 use Rattle.state.proofs.Cutting.{over-above}
 use Rattle.state.proofs.Trying.{trying, tried-as}
 use Rattle.state.proofs.Ending.{not-on}
-use Rattle.sprints.specs.Swift.{quiet, Flat, stepped, Ready, Attempted}
-use Rattle.effects.proofs.Acting.{nothing-done}
+use Rattle.sprints.specs.Swift.{marked, quiet, Flat, stepped, Ready, Attempted}
+use Rattle.effects.proofs.Acting.{nothing-done, is-acts, by-place}
 use Rattle.sprints.proofs.Flatness.{flat}
-use Rattle.sprints.proofs.Level.{flat-made, flat-of}
+use Rattle.sprints.proofs.Level.{flat-made, flat-of, flat-mark, flat-higher}
 use Rattle.effects.proofs.Executing.{busy-lower, plain-done, plain-effect}
 use Rattle.state.specs.Operations as table
 
@@ -80,7 +84,7 @@ use Rattle.state.specs.Operations as table
 
 module _ {w w′ : List ℕ} {r q r′ : Registers} (code : Code) (n a : ℕ) (o : Op) (t : Tops) (g : Busy w r) (eo : o ≡ opOf n) (ea : (a ≡ arityOf o) × (a ≤ 2)) (et : Topmost (above (stackOf (slots w) (r .height))) t)
     (x y : Value) (e : Effect) (h : a ≤ t .count) (ex : x ≡ valueIn (t .first)) (ey : y ≡ valueIn (t .second)) (ee : e ≡ effectOf o x y) (eq : q ≡ trying r (r .height - a) (r .depth) (r .used) (r .ok)) (d : Tried (affected code e) w q w′ r′) where
-  pub plain-flat : (k : ℕ) → flat e ≡ true → (r′ .ok ≡ true → k ≡ r′ .height) × (r′ .ok ≡ false → k ≡ 130) → Flat (execute code (Plain n)) w r w′ k
+  pub plain-flat : (k : ℕ) → flat e ≡ true → (r′ .ok ≡ true → k ≡ r′ .height) × (r′ .ok ≡ false → k ≡ 130) → Flat (marked w (r .height)) (execute code (Plain n)) w r w′ k
   plain-flat k f i = flat-of code (Plain n) (rw (← (plain-effect code n a o t g eo ea et x y e h ex ey ee)) f) k r′ i (plain-done code n a o t g eo ea et x y e h ex ey ee eq d)
 
 -- ---- a literal, by its kind
@@ -196,6 +200,15 @@ sums-known n (inr (inl e)) = rw (e, ← (by-number .8))
 sums-known n (inr (inr (inl e))) = rw (e, ← (by-number .9))
 sums-known n (inr (inr (inr e))) = rw (e, ← (by-number .10))
 
+-- FGET, FSET
+module _ (n : ℕ) where
+  pub is-fget : n ≡ 20 → OnFrame Fget ≡ opOf n
+  is-fget e = rw e (by-number .0)
+
+  pub is-fset : OneOf (20 ∷ 21 ∷ []) n → (n ≡ 20 → ⊥) → OnFrame Fset ≡ opOf n
+  is-fset (inl e) f = absurd (f e)
+  is-fset (inr e) f = rw e (by-number .1)
+
 -- AND, EQ, GE, GT, OR
 module _ (n : ℕ) where
   pub is-and : n ≡ 202 → (Tests And ≡ opOf n) × (2 ≡ arityOf (Tests And))
@@ -221,6 +234,14 @@ module _ (n : ℕ) where
   is-or (inr (inr (inl e))) f g h i = absurd (h e)
   is-or (inr (inr (inr (inl e)))) f g h i = absurd (i e)
   is-or (inr (inr (inr (inr e)))) f g h i = (rw e (by-number .17), refl)
+
+-- FGET and FSET, which lie side by side
+pub of-frame : (n : ℕ) → 20 ≤ n → n < 22 → OneOf (20 ∷ 21 ∷ []) n
+of-frame n a b = pick (ltb n 21) refl
+  where
+    pick : (k : Bool) → ltb n 21 ≡ k → OneOf (20 ∷ 21 ∷ []) n
+    pick true e = inl (omega (arith, ltb-true n 21 e))
+    pick false e = inr (omega (arith, ltb-false n 21 e))
 
 -- those five, as the code tells them: three one by one, and the two that lie side by side
 module _ (n : ℕ) where
@@ -263,6 +284,18 @@ vector-arity k a e = e
 pop-one : (1 ≡ arityOf (OnStack Pop)) × (1 ≤ 2)
 unfolding arityOf stackArity
 pop-one = (refl, omega arith)
+
+mark-one : (1 ≡ arityOf (OnStack Mark)) × (1 ≤ 2)
+unfolding arityOf stackArity
+mark-one = (refl, omega arith)
+
+mark-pops : popped (Plain 186) ≡ 1
+unfolding popped arityOf stackArity
+mark-pops = rw (← (by-number .11))
+
+mark-places : (n : ℕ) (x y : Value) (c : Card) → cardOf c ≡ cardinal? x → c ≡ card.Is n → n ≡ 0 → Acts (Place 0) ≡ effectOf (OnStack Mark) x y
+unfolding effectOf stackEffect
+mark-places n x y c ec e z = is-card x (λ m. Acts (Place m)) ec (rw z at e)
 
 pop-effect : (x y : Value) → Acts (Works Nothing) ≡ effectOf (OnStack Pop) x y
 unfolding effectOf stackEffect
@@ -314,23 +347,23 @@ module _ {w w′ : List ℕ} {r : Registers} (code : Code) where
   is-unmark n p e t = rw e (at-once 192 (Acts (Remove 0)) (pops-none .3) (λ x y. own-part x y .3) (removes t))
 
   module _ (n h : ℕ) (p : Registers) (a : (p .ok ≡ true → h ≡ p .height) × (p .ok ≡ false → h ≡ 130)) where
-    pub is-dup : n ≡ 181 → Tried (repeat 1) w r w′ p → Flat (execute code (Plain n)) w r w′ h × ((h ≡ 129 → ⊥) → roleOf n ≡ role.Plain)
+    pub is-dup : n ≡ 181 → Tried (repeat 1) w r w′ p → Flat (marked w (r .height)) (execute code (Plain n)) w r w′ h × ((h ≡ 129 → ⊥) → roleOf n ≡ role.Plain)
     is-dup e t =
         rw e
         (flat-of code (Plain 181) (once-flat 181 (Acts (Works (Repeat 1))) (λ x y. own-part x y .0) (abs w r) refl) h p a (at-once 181 (Acts (Works (Repeat 1))) (pops-none .0) (λ x y. own-part x y .0) (repeats t)), λ _. op-role 181 (OnStack Dup) (by-number .3) refl)
 
-    pub is-exch : n ≡ 185 → Tried (turn 2 1) w r w′ p → Flat (execute code (Plain n)) w r w′ h × ((h ≡ 129 → ⊥) → roleOf n ≡ role.Plain)
+    pub is-exch : n ≡ 185 → Tried (turn 2 1) w r w′ p → Flat (marked w (r .height)) (execute code (Plain n)) w r w′ h × ((h ≡ 129 → ⊥) → roleOf n ≡ role.Plain)
     is-exch e t =
         rw e
         (flat-of code (Plain 185) (once-flat 185 (Acts (Works (Turn 2 1))) (λ x y. own-part x y .4) (abs w r) refl) h p a (at-once 185 (Acts (Works (Turn 2 1))) (pops-none .4) (λ x y. own-part x y .4) (turns t)), λ _. op-role 185 (OnStack Exch) (by-number .12) refl)
 
-    pub is-count : n ≡ 188 → Tried tally w r w′ p → Flat (execute code (Plain n)) w r w′ h × ((h ≡ 129 → ⊥) → roleOf n ≡ role.Plain)
+    pub is-count : n ≡ 188 → Tried tally w r w′ p → Flat (marked w (r .height)) (execute code (Plain n)) w r w′ h × ((h ≡ 129 → ⊥) → roleOf n ≡ role.Plain)
     is-count e t =
         rw e
         (flat-of code (Plain 188) (once-flat 188 (Acts Tally) (λ x y. own-part x y .1) (abs w r) refl) h p a (at-once 188 (Acts Tally) (pops-none .1) (λ x y. own-part x y .1) (tallies t)), λ _. op-role 188 (OnStack Count) (by-number .4) refl)
 
 -- values popped, the height that is left
-pub pop-flat : {w : List ℕ} {r : Registers} (code : Code) (t : Tops) → Busy w r → Topmost (above (stackOf (slots w) (r .height))) t → 1 ≤ t .count → 1 ≤ r .height → Flat (execute code (Plain 180)) w r w (r .height - 1)
+pub pop-flat : {w : List ℕ} {r : Registers} (code : Code) (t : Tops) → Busy w r → Topmost (above (stackOf (slots w) (r .height))) t → 1 ≤ t .count → 1 ≤ r .height → Flat (marked w (r .height)) (execute code (Plain 180)) w r w (r .height - 1)
 unfolding effectAt performed
 pop-flat {w} {r} code t g et h k =
     let q = trying r (r .height - 1) (r .depth) (r .used) (r .ok) in
@@ -338,7 +371,16 @@ pop-flat {w} {r} code t g et h k =
     (plain-done code 180 1 (OnStack Pop) t g (by-number .2) pop-one et (valueIn (t .first)) (valueIn (t .second)) (Acts (Works Nothing)) h refl refl (pop-effect (valueIn (t .first)) (valueIn (t .second))) refl
     (rests code (nothing-done code (busy-lower 1 g refl) refl)))
 
-pub is-nop : {w : List ℕ} {r : Registers} (code : Code) (n : ℕ) → Busy w r → n ≡ 1 → Flat (execute code (Plain n)) w r w (r .height) × ((r .height ≡ 129 → ⊥) → roleOf n ≡ role.Plain)
+-- MARK under no value
+pub mark-flat : {top : ℕ} {w w′ : List ℕ} {r q p : Registers} (code : Code) (n h : ℕ) (t : Tops) → Busy w r → Topmost (above (stackOf (slots w) (r .height))) t → 1 ≤ t .count → (x : Value) → x ≡ valueIn (t .first) → (c : Card) → cardOf c ≡ cardinal? x → c ≡ card.Is n → n ≡ 0
+    → r .height ≤ top → q ≡ trying r (r .height - 1) (r .depth) (r .used) (r .ok) → Tried (place 0) w q w′ p → (p .ok ≡ true → h ≡ p .height) × (p .ok ≡ false → h ≡ 130) → Flat top (execute code (Plain 186)) w r w′ h
+mark-flat {p = p} code n h t g et there x ex c ec e z low eq d a =
+    let y = valueIn (t .second) in
+    let i = mark-places n x y c ec e z in
+    flat-mark code (Plain 186) mark-pops (sym (plain-effect code 186 1 (OnStack Mark) t g (by-number .11) mark-one et x y (Acts (Place 0)) there ex refl i)) low h p a
+    (plain-done code 186 1 (OnStack Mark) t g (by-number .11) mark-one et x y (Acts (Place 0)) there ex refl i eq (is-acts code (Acts (Place 0)) (Place 0) refl (by-place code (Place 0) 0 0 refl refl d)))
+
+pub is-nop : {w : List ℕ} {r : Registers} (code : Code) (n : ℕ) → Busy w r → n ≡ 1 → Flat (marked w (r .height)) (execute code (Plain n)) w r w (r .height) × ((r .height ≡ 129 → ⊥) → roleOf n ≡ role.Plain)
 is-nop {w} {r} code n g e =
     rw e
     (flat-made code (Plain 1) (once-flat 1 (Acts (Works Nothing)) (λ x y. own-part x y .2) (abs w r) refl) (r .height) (g .stack-fits) (at-once code 1 (Acts (Works Nothing)) (pops-none .2) (λ x y. own-part x y .2) (rests code (nothing-done code g refl))), λ _. op-role 1 (OnStack Nop) (by-number .5) refl)
@@ -349,31 +391,35 @@ quiet-is r still undone = λ i. record { height = r .height; depth = r .depth; u
 
 -- the others by number
 module _ {w w′ : List ℕ} {r : Registers} (code : Code) (n h : ℕ) where
-  pub is-pop : n ≡ 180 → Flat (execute code (Plain 180)) w r w′ h → Flat (execute code (Plain n)) w r w′ h × ((h ≡ 129 → ⊥) → roleOf n ≡ role.Plain)
+  pub is-pop : n ≡ 180 → Flat (marked w (r .height)) (execute code (Plain 180)) w r w′ h → Flat (marked w (r .height)) (execute code (Plain n)) w r w′ h × ((h ≡ 129 → ⊥) → roleOf n ≡ role.Plain)
   is-pop e t = rw e (t, λ _. op-role 180 (OnStack Pop) (by-number .2) refl)
 
-  module _ (o : Op) (k : known o ≡ true) (t : (c : Code) (m : ℕ) → o ≡ opOf m → Flat (execute c (Plain m)) w r w′ h) where
-    by-op : o ≡ opOf n → Flat (execute code (Plain n)) w r w′ h × ((h ≡ 129 → ⊥) → roleOf n ≡ role.Plain)
+  pub is-mark : {clear : ℕ} → n ≡ 186 → Flat clear (execute code (Plain 186)) w r w′ h → Flat clear (execute code (Plain n)) w r w′ h × ((h ≡ 129 → ⊥) → roleOf n ≡ role.Plain)
+  is-mark e t = rw e (t, λ _. op-role 186 (OnStack Mark) (by-number .11) refl)
+
+  module _ (o : Op) (k : known o ≡ true) (t : (c : Code) (m : ℕ) → o ≡ opOf m → Flat (marked w (r .height)) (execute c (Plain m)) w r w′ h) where
+    by-op : o ≡ opOf n → Flat (marked w (r .height)) (execute code (Plain n)) w r w′ h × ((h ≡ 129 → ⊥) → roleOf n ≡ role.Plain)
     by-op e = (t code n e, λ _. op-role n o e k)
 
-  pub is-fget : n ≡ 20 → ((c : Code) (m : ℕ) → OnFrame Fget ≡ opOf m → Flat (execute c (Plain m)) w r w′ h) → Flat (execute code (Plain n)) w r w′ h × ((h ≡ 129 → ⊥) → roleOf n ≡ role.Plain)
-  is-fget e t = by-op (OnFrame Fget) refl t (rw e (by-number .0))
+  pub is-frame : (o : FrameOp) → OnFrame o ≡ opOf n → ((c : Code) (m : ℕ) → OnFrame o ≡ opOf m → Flat (marked w (r .height)) (execute c (Plain m)) w r w′ h) → Flat (marked w (r .height)) (execute code (Plain n)) w r w′ h × ((h ≡ 129 → ⊥) → roleOf n ≡ role.Plain)
+  is-frame o e t = by-op (OnFrame o) refl t e
 
-  pub is-fset : n ≡ 21 → ((c : Code) (m : ℕ) → OnFrame Fset ≡ opOf m → Flat (execute c (Plain m)) w r w′ h) → Flat (execute code (Plain n)) w r w′ h × ((h ≡ 129 → ⊥) → roleOf n ≡ role.Plain)
-  is-fset e t = by-op (OnFrame Fset) refl t (rw e (by-number .1))
-
-  pub is-test : (o : TestOp) → Tests o ≡ opOf n → ((c : Code) (m : ℕ) → Tests o ≡ opOf m → Flat (execute c (Plain m)) w r w′ h) → Flat (execute code (Plain n)) w r w′ h × ((h ≡ 129 → ⊥) → roleOf n ≡ role.Plain)
+  pub is-test : (o : TestOp) → Tests o ≡ opOf n → ((c : Code) (m : ℕ) → Tests o ≡ opOf m → Flat (marked w (r .height)) (execute c (Plain m)) w r w′ h) → Flat (marked w (r .height)) (execute code (Plain n)) w r w′ h × ((h ≡ 129 → ⊥) → roleOf n ≡ role.Plain)
   is-test o e t = by-op (Tests o) refl t e
 
   module _ (still : r .skipping ≡ false) (undone : r .ok ≡ false) where
-    pub is-get : n ≡ 17 → ((c : Code) (m : ℕ) → OnVectors Get ≡ opOf m → Flat (execute c (Plain m)) w (quiet (r .height) (r .depth) (r .used) (r .steps) (r .errors)) w′ h) → Flat (execute code (Plain n)) w r w′ h × ((h ≡ 129 → ⊥) → roleOf n ≡ role.Plain)
+    pub is-get : n ≡ 17 → ((c : Code) (m : ℕ) → OnVectors Get ≡ opOf m → Flat (marked w (r .height)) (execute c (Plain m)) w (quiet (r .height) (r .depth) (r .used) (r .steps) (r .errors)) w′ h) → Flat (marked w (r .height)) (execute code (Plain n)) w r w′ h × ((h ≡ 129 → ⊥) → roleOf n ≡ role.Plain)
     is-get e t = by-op (OnVectors Get) refl (λ c m i. rw (quiet-is r still undone) (t c m i)) (rw e (by-number .18))
 
-    pub is-shape : n ≡ 285 → ((c : Code) (m : ℕ) → OnVectors Shape ≡ opOf m → Flat (execute c (Plain m)) w (quiet (r .height) (r .depth) (r .used) (r .steps) (r .errors)) w′ h) → Flat (execute code (Plain n)) w r w′ h × ((h ≡ 129 → ⊥) → roleOf n ≡ role.Plain)
+    pub is-shape : n ≡ 285 → ((c : Code) (m : ℕ) → OnVectors Shape ≡ opOf m → Flat (marked w (r .height)) (execute c (Plain m)) w (quiet (r .height) (r .depth) (r .used) (r .steps) (r .errors)) w′ h) → Flat (marked w (r .height)) (execute code (Plain n)) w r w′ h × ((h ≡ 129 → ⊥) → roleOf n ≡ role.Plain)
     is-shape e t = by-op (OnVectors Shape) refl (λ c m i. rw (quiet-is r still undone) (t c m i)) (rw e (by-number .19))
 
-  pub is-reckon : OneOf (201 ∷ 204 ∷ 210 ∷ 214 ∷ []) n → ((c : Code) → Flat (execute c (Plain n)) w r w′ h) → Flat (execute code (Plain n)) w r w′ h × ((h ≡ 129 → ⊥) → roleOf n ≡ role.Plain)
+  pub is-reckon : OneOf (201 ∷ 204 ∷ 210 ∷ 214 ∷ []) n → ((c : Code) → Flat (marked w (r .height)) (execute c (Plain n)) w r w′ h) → Flat (marked w (r .height)) (execute code (Plain n)) w r w′ h × ((h ≡ 129 → ⊥) → roleOf n ≡ role.Plain)
   is-reckon o t = (t code, λ _. op-role n (opOf n) refl (sums-known n o))
+
+-- marks may stand higher
+pub operated : {top clear h : ℕ} {f : State → Option State} {w w′ : List ℕ} {r : Registers} (n : ℕ) → top ≤ clear → Flat top f w r w′ h × ((h ≡ 129 → ⊥) → roleOf n ≡ role.Plain) → Flat clear f w r w′ h × ((h ≡ 129 → ⊥) → roleOf n ≡ role.Plain)
+operated n l d = (flat-higher l (d .0), d .1)
 
 -- ---- the literal at a place
 
@@ -426,6 +472,7 @@ module _ {code : Code} {b w : List ℕ} {at : ℕ} {r : Registers} (ready : Read
           let d : none ≡ execute code x (abs w₁ q) = rw o at (t .does) in
           let e : abs w′ (stepped r (r .height)) ≡ abs w₁ q = rw (t .back o, be .registers) in
           ap fault e ∙ sym (due-step x found ∙ (rw (← d)));
+      frames = λ o. rw (t .back o) (rw (be .registers) at (be .busy .frames-fit));
     }
 
 -- ---- some steps at once
@@ -473,4 +520,4 @@ none-run code n s = let z : n - n ≡ 0 = omega arith in rw z
 
 -- the bounds hold whatever `ok` says
 pub good-as : {w : List ℕ} {r : Registers} (b : Bool) → Good w r → Good w (record { height = r .height; depth = r .depth; used = r .used; steps = r .steps; errors = r .errors; skipping = r .skipping; ok = b })
-good-as b g = record { room = g .room; stack-fits = g .stack-fits; depth-fits = g .depth-fits; cells-fit = g .cells-fit; errors-fit = g .errors-fit }
+good-as b g = record { room = g .room; stack-fits = g .stack-fits; depth-fits = g .depth-fits; cells-fit = g .cells-fit; frames-fit = g .frames-fit; errors-fit = g .errors-fit }

@@ -22,7 +22,7 @@ use Rattle.literals.specs.Dues.{LiteralThere}
 use Rattle.sprints.specs.declared.Stride.{Stride}
 use Rattle.sprints.specs.declared.Reach.{Reach}
 use Rattle.state.specs.declared.Registers.{Registers}
-use Rattle.state.specs.Layout.{stackOf, contextsOf, aside, abs, Good, Busy, Tried}
+use Rattle.state.specs.Layout.{stackOf, contextsOf, aside, abs, lent, Good, Busy, Tried}
 
 -- ---- bytes that have been judged
 
@@ -56,9 +56,9 @@ origin w depth = running (contextsOf (slots w) depth) .origin
 abbrev pub ending : List ℕ → ℕ → ℕ
 ending w depth = running (contextsOf (slots w) depth) .end
 
--- marks stand no higher than before, the same body runs up to the same end, and the frame kept aside is as it was
-pub record Stays (w : List ℕ) (r : Registers) (w′ : List ℕ) (h : ℕ) : Type 0 where
-  pub low : h ≤ mostEntries → marked w′ h ≤ marked w (r .height)
+-- no mark stands at the height `top` or above, the same body runs up to the same end, and the frame kept aside is as it was
+pub record Stays (top : ℕ) (w : List ℕ) (r : Registers) (w′ : List ℕ) (h : ℕ) : Type 0 where
+  pub low : h ≤ mostEntries → marked w′ h ≤ top
   pub here : h ≤ mostEntries → origin w′ (r .depth) ≡ origin w (r .depth)
   pub ends : h ≤ mostEntries → ending w′ (r .depth) ≡ ending w (r .depth)
   pub keeps : h ≤ mostEntries → aside w′ ≡ aside w
@@ -77,9 +77,9 @@ onto p n none = none
 onto p n (some s) = some (ahead p n s)
 
 -- what means f done within a step: it leaves the stack h high, whatever the place and the steps; 130 says that it fails, 129 nothing
-pub record Flat (f : State → Option State) (w : List ℕ) (r : Registers) (w′ : List ℕ) (h : ℕ) : Type 0 where
+pub record Flat (top : ℕ) (f : State → Option State) (w : List ℕ) (r : Registers) (w′ : List ℕ) (h : ℕ) : Type 0 where
   pub made : h ≤ mostEntries → Tried f w r w′ (raised r h)
-  pub stays : Stays w r w′ h
+  pub stays : Stays top w r w′ h
   pub back : mostEntries < h → w′ ≡ w
   pub free : h ≤ mostEntries → (p n : ℕ) → f (ahead p n (abs w r)) ≡ onto p n (f (abs w r))
   pub fails : h ≡ 130 → (p n : ℕ) → f (ahead p n (abs w r)) ≡ none
@@ -108,19 +108,20 @@ pub record Attempted (code : Code) (w : List ℕ) (r : Registers) (w′ : List �
   pub keeps : aside w′ ≡ aside w
   pub does : r′ .ok ≡ true → settle (abs w′ r′) ≡ step code (abs w r)
   pub fails : r′ .ok ≡ false → fault (abs w′ (stepped r (r .height))) ≡ step code (abs w r)
+  pub frames : r′ .ok ≡ false → lent (slots w′) (r .depth) ≤ r .used
 
 -- ---- several
 
 -- the literal at `at` of the bytes b done, but for its place and its step, or told to fail (130); of one that was left undone (129) nothing is said.
 -- `number`: the operator there, unless it is 0
-pub record Strides (b : List ℕ) (at : ℕ) (w : List ℕ) (r : Registers) (w′ : List ℕ) (t : Stride) : Type 0 where
-  pub stays : Stays w r w′ (t .height)
+pub record Strides (top : ℕ) (b : List ℕ) (at : ℕ) (w : List ℕ) (r : Registers) (w′ : List ℕ) (t : Stride) : Type 0 where
+  pub stays : Stays top w r w′ (t .height)
   pub back : mostEntries < t .height → w′ ≡ w
   pub token : (t .height ≡ 129 → ⊥) → NoComment (tokenAt b at)
   pub next : (t .height ≡ 129 → ⊥) → foundAt b at .next ≡ solid b (t .next)
   pub inside : (t .height ≡ 129 → ⊥) → t .next ≤ length b
   pub told : (t .number ≡ 0 → ⊥) → tokenAt b at ≡ read.Operator (t .number) (t .next)
-  pub does : (t .height ≡ 129 → ⊥) → (code : Code) → Flat (execute code (foundAt b at .literal)) w r w′ (t .height)
+  pub does : (t .height ≡ 129 → ⊥) → (code : Code) → Flat top (execute code (foundAt b at .literal)) w r w′ (t .height)
 
 -- the registers r with another height, and no more
 abbrev pub lifted : Registers → ℕ → Registers
@@ -132,6 +133,7 @@ pub record Rowed (code : Code) (b : List ℕ) (at n most : ℕ) (w : List ℕ) (
   pub fits : t .height ≤ mostEntries
   pub keeps : aside w′ ≡ aside w
   pub long : length w′ ≡ length w
+  pub frames : lent (slots w′) (r .depth) ≤ r .used
   pub stays : origin w′ (r .depth) ≡ origin w (r .depth)
   pub ends : ending w′ (r .depth) ≡ ending w (r .depth)
   pub idle : t .left ≡ most → (w′ ≡ w) × (t .height ≡ r .height)

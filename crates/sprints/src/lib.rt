@@ -21,10 +21,10 @@ ghost use Rattle.tokens.specs.Token.{tokenAt};
 ghost use Rattle.state.specs.Layout.{Busy};
 ghost use Rattle.literals.specs.Dues.{LiteralThere};
 ghost use Rattle.sprints.specs.Swift.{TokenThere, LiteralsLeft, marked, origin, ending, quiet, Flat, Strides, Rowed};
+use literals::reading::NAME;
 use literals::reading::TEXT;
 use machine::Effect;
 use machine::FrameOp;
-use machine::Literal;
 use machine::Next;
 use machine::TestOp;
 use machine::Value;
@@ -32,6 +32,7 @@ use machine::VectorOp;
 use machine::Work;
 use numbers::Answer;
 use numbers::Number;
+use operands::Card;
 use state::Registers;
 use tokens::Form;
 
@@ -76,7 +77,7 @@ fn height_of(p: Registers) -> usize
 // FGET and FSET
 fn framed(w: &mut [u8], r: Registers, o: FrameOp) -> usize
     requires { ⌜ Busy (now w) r ⌝ }
-    ensures { λ h. ⌜ ((code : Code) (n : ℕ) → OnFrame o ≡ opOf n → Flat (execute code (Plain n)) (now (w .entry)) r (now (w .exit)) h) ⌝ }
+    ensures { λ h. ⌜ ((code : Code) (n : ℕ) → OnFrame o ≡ opOf n → Flat (marked (now (w .entry)) (r .height)) (execute code (Plain n)) (now (w .entry)) r (now (w .exit)) h) ⌝ }
 {
     let t = state::stack::tops(w, r.height);
     if t.count < 1 {
@@ -103,9 +104,45 @@ fn framed(w: &mut [u8], r: Registers, o: FrameOp) -> usize
     }
 }
 
+// MARK under no value. Left undone where the mark would stand at the height `clear` or above.
+fn mark(w: &mut [u8], r: Registers, clear: usize) -> usize
+    requires { ⌜ Busy (now w) r ⌝ }
+    ensures { λ h. ⌜ ((code : Code) → Flat clear (execute code (Plain 186)) (now (w .entry)) r (now (w .exit)) h) ⌝ }
+{
+    if r.height > clear {
+        return UNDONE;
+    }
+    let t = state::stack::tops(w, r.height);
+    if t.count < 1 {
+        return UNDONE;
+    }
+    match operands::values::cardinal(state::values::value_of(t.first)) {
+        Card::No => UNDONE,
+        Card::Is(n) => {
+            if n != 0 {
+                return UNDONE;
+            }
+            let mut q = r;
+            q.height = r.height - 1;
+            height_of(marks::place_bare(w, q))
+        }
+    }
+}
+
+// FGET or FSET
+fn frame_op(n: u16) -> FrameOp
+    requires { ⌜ OneOf (20 ∷ 21 ∷ []) n ⌝ }
+    ensures { λ r. ⌜ OnFrame r ≡ opOf n ⌝ }
+{
+    match n {
+        20 => FrameOp::Fget,
+        _ => FrameOp::Fset,
+    }
+}
+
 fn pop(w: &[u8], r: Registers) -> usize
     requires { ⌜ Busy (now w) r ⌝ }
-    ensures { λ h. ⌜ ((code : Code) → Flat (execute code (Plain 180)) (now (w .entry)) r (now (w .entry)) h) ⌝ }
+    ensures { λ h. ⌜ ((code : Code) → Flat (marked (now (w .entry)) (r .height)) (execute code (Plain 180)) (now (w .entry)) r (now (w .entry)) h) ⌝ }
 {
     let t = state::stack::tops(w, r.height);
     if t.count < 1 {
@@ -129,7 +166,7 @@ fn two_numbers(n: u16, a: Number, b: Number) -> Answer
 
 fn reckon(w: &mut [u8], r: Registers, n: u16) -> usize
     requires { ⌜ Busy (now w) r × OneOf (201 ∷ 204 ∷ 210 ∷ 214 ∷ []) n ⌝ }
-    ensures { λ h. ⌜ ((code : Code) → Flat (execute code (Plain n)) (now (w .entry)) r (now (w .exit)) h) ⌝ }
+    ensures { λ h. ⌜ ((code : Code) → Flat (marked (now (w .entry)) (r .height)) (execute code (Plain n)) (now (w .entry)) r (now (w .exit)) h) ⌝ }
 {
     let t = state::stack::tops(w, r.height);
     if t.count < 2 {
@@ -167,10 +204,14 @@ fn two_values(n: u16) -> TestOp
 
 fn test(w: &mut [u8], r: Registers, o: TestOp) -> usize
     requires { ⌜ Busy (now w) r × (2 ≡ arityOf (Tests o)) ⌝ }
-    ensures { λ h. ⌜ ((code : Code) (n : ℕ) → Tests o ≡ opOf n → Flat (execute code (Plain n)) (now (w .entry)) r (now (w .exit)) h) ⌝ }
+    ensures { λ h. ⌜ ((code : Code) (n : ℕ) → Tests o ≡ opOf n → Flat (marked (now (w .entry)) (r .height)) (execute code (Plain n)) (now (w .entry)) r (now (w .exit)) h) ⌝ }
 {
     let t = state::stack::tops(w, r.height);
     if t.count < 2 {
+        return UNDONE;
+    }
+    // identifiers are compared by their bytes, which are not at hand here
+    if t.first.kind == 2 {
         return UNDONE;
     }
     let x = state::values::value_of(t.first);
@@ -195,7 +236,7 @@ fn look(
     o: VectorOp,
 ) -> usize
     requires { ⌜ Busy (now w) (quiet height depth used steps errors) ⌝ }
-    ensures { λ h. ⌜ ((code : Code) (n : ℕ) → OnVectors o ≡ opOf n → Flat (execute code (Plain n)) (now (w .entry)) (quiet height depth used steps errors) (now (w .exit)) h) ⌝ }
+    ensures { λ h. ⌜ ((code : Code) (n : ℕ) → OnVectors o ≡ opOf n → Flat (marked (now (w .entry)) height) (execute code (Plain n)) (now (w .entry)) (quiet height depth used steps errors) (now (w .exit)) h) ⌝ }
 {
     let a = reckoning::vector::arity(o);
     let t = state::stack::tops(w, height);
@@ -234,13 +275,13 @@ fn look(
 // An operator. No mark stands at the height `clear` or above.
 fn operate(w: &mut [u8], r: Registers, n: u16, clear: usize) -> usize
     requires { ⌜ Busy (now w) r × (r .skipping ≡ false) × (r .ok ≡ false) × (marked (now w) (r .height) ≤ clear) ⌝ }
-    ensures { λ h. ⌜ ((code : Code) → Flat (execute code (Plain n)) (now (w .entry)) r (now (w .exit)) h × ((h ≡ 129 → ⊥) → roleOf n ≡ role.Plain)) ⌝ }
+    ensures { λ h. ⌜ ((code : Code) → Flat clear (execute code (Plain n)) (now (w .entry)) r (now (w .exit)) h × ((h ≡ 129 → ⊥) → roleOf n ≡ role.Plain)) ⌝ }
 {
     match n {
         1 => r.height,
-        20 => framed(w, r, FrameOp::Fget),
-        21 => framed(w, r, FrameOp::Fset),
+        20 | 21 => framed(w, r, frame_op(n)),
         180 => pop(w, r),
+        186 => mark(w, r, clear),
         181 => height_of(state::stack::repeat(w, r, 1)),
         185 => height_of(state::stack::exchange(w, r)),
         188 => height_of(marks::tally(w, r, clear)),
@@ -283,7 +324,7 @@ fn undone(at: usize) -> Stride
 // A number or a name.
 fn sequence(w: &mut [u8], r: Registers, b: &[u8], at: usize) -> Stride
     requires { ⌜ (length (now b) ≤ 16777215) × Busy (now w) r × ((at < length (now b)) × (192 ≤ getD (now b) at 0)) × TokenThere (now b) at ⌝ }
-    ensures { λ t. ⌜ Strides (now (b .entry)) at (now (w .entry)) r (now (w .exit)) t ⌝ }
+    ensures { λ t. ⌜ Strides (marked (now (w .entry)) (r .height)) (now (b .entry)) at (now (w .entry)) r (now (w .exit)) t ⌝ }
 {
     if !nesting::bodies::is_solid(b, at) {
         return undone(at);
@@ -291,22 +332,26 @@ fn sequence(w: &mut [u8], r: Registers, b: &[u8], at: usize) -> Stride
     if tokens::bits::low5(b[at]) == TEXT {
         return undone(at);
     }
-    let d = literals::reading::due_sequence(b, at);
-    let x = d.literal;
-    match x {
-        Literal::Figure(a) => {
-            let height = height_of(state::stack::push_number(w, r, a));
+    if tokens::bits::low5(b[at]) == NAME {
+        let x = passing::known::extent(b, at);
+        let height = height_of(state::stack::push_name(
+            w,
+            r,
+            table::words::word(at),
+            table::words::word(x.len),
+        ));
+        return Stride {
+            height,
+            next: x.next,
+            number: NO_OPERATOR,
+        };
+    }
+    match reader::reading::sequence_at(b, at) {
+        tokens::Read::Number { value, next } => {
+            let height = height_of(state::stack::push_number(w, r, value));
             Stride {
                 height,
-                next: d.next,
-                number: NO_OPERATOR,
-            }
-        }
-        Literal::Name { start, len } => {
-            let height = height_of(state::stack::push_name(w, r, start, len));
-            Stride {
-                height,
-                next: d.next,
+                next,
                 number: NO_OPERATOR,
             }
         }
@@ -317,7 +362,7 @@ fn sequence(w: &mut [u8], r: Registers, b: &[u8], at: usize) -> Stride
 // The literal at `at`. At a comment nothing is done.
 fn literal(w: &mut [u8], r: Registers, b: &[u8], at: usize, clear: usize) -> Stride
     requires { ⌜ (length (now b) ≤ 16777215) × Busy (now w) r × (r .skipping ≡ false) × (r .ok ≡ false) × (marked (now w) (r .height) ≤ clear) × TokenThere (now b) at ⌝ }
-    ensures { λ t. ⌜ Strides (now (b .entry)) at (now (w .entry)) r (now (w .exit)) t ⌝ }
+    ensures { λ t. ⌜ Strides clear (now (b .entry)) at (now (w .entry)) r (now (w .exit)) t ⌝ }
 {
     match passing::known::form(b, at) {
         Form::Number { raw, next } => {

@@ -2,7 +2,7 @@
 use mathlib.Core.Path.{_≡_, refl, ap, _∙_}
 use mathlib.Core.Logic.{inl, inr}
 use mathlib.Core.List.{List, [], _∷_, _++_, map}
-use Prim.Native.Nat.{ℕ, zero, suc, _+_, _-_, _≤_, _<_}
+use Prim.Native.Nat.{ℕ, zero, suc, _+_, _-_, _%_, _≤_, _<_}
 use native.Mathlib.Omega.{arith}
 use lib.ListN.{length, getD, set, take, drop, List·getD-map}
 use lib.Seq.{take-at, drop-at}
@@ -13,9 +13,9 @@ use Rattle.machine.specs.declared.Value.{Value}
 use Rattle.machine.specs.State.{Entry, val, mark, running}
 use Rattle.machine.specs.Contexts.{above, beneath, over, from}
 use Rattle.machine.specs.Engine.{values, lastFrame, storeIn}
-use Rattle.state.specs.Layout.{valueIn, entryIn, stackOf, valuesAt, frameAt, contextIn, contextAt, contextsOf}
+use Rattle.state.specs.Layout.{valueIn, entryIn, stackOf, valuesAt, frameAt, frameOf, contextIn, contextAt, contextsOf, lent}
 use lib.ListN.{length-map}
-use Rattle.state.proofs.Parts.{contexts-same, contexts-top, length-values}
+use Rattle.state.proofs.Parts.{frame-first, lent-same, lent-less, lent-top, contexts-same, contexts-top, length-values}
 
 -- ---- lists
 
@@ -147,24 +147,26 @@ values-get m b n i z h =
 
 -- ---- contexts
 
-pub last-frame : (m : List Slot) (d : ℕ) (f : List Value) → 0 < d → lastFrame f (contextsOf m d) ≡ valuesAt m 128 50
+pub last-frame : (m : List Slot) (d u : ℕ) (f : List Value) → 0 < d → lent m d ≤ u → u ≤ 1024 → lastFrame f (contextsOf m d) ≡ valuesAt m 128 50
 unfolding lastFrame contextsOf contextAt contextIn
-last-frame m zero f h = absurd (omega arith)
-last-frame m (suc zero) f h = refl
-last-frame m (suc (suc d)) f h = last-frame m (suc d) (valuesAt m (frameAt (suc d)) 50) (omega arith)
+last-frame m zero u f h e l = absurd (omega arith)
+last-frame m (suc zero) u f h e l = let z : getD m 1752 nil .d % 4096 ≡ 0 = frame-first (getD m 1752 nil .d % 4096) u (lent-top m 1 u h e) l in rw z
+last-frame m (suc (suc d)) u f h e l = last-frame m (suc d) u (valuesAt m (frameOf (getD m (1752 + suc d) nil)) 50) (omega arith) (omega (arith, lent-less m (suc (suc d)) (suc d) (omega arith))) l
 
 -- the slot of the running context, and its frame, anew
-pub contexts-renew : (m m′ : List Slot) (d : ℕ) → 0 < d → d ≤ 12 → Same m′ m 128 (frameAt (d - 1)) → Same m′ m 1752 (1752 + (d - 1))
+pub contexts-renew : (m m′ : List Slot) (d u : ℕ) → 0 < d → lent m d ≤ u → u ≤ 1024 → Same m′ m 128 (frameAt (d - 1)) → Same m′ m 728 (728 + u) → Same m′ m 1752 (1752 + (d - 1))
     → contextsOf m′ d ≡ contextAt m′ (d - 1) ∷ contextsOf m (d - 1)
-contexts-renew m m′ d h l p q = contexts-top m′ d h ∙ ap (λ x. contextAt m′ (d - 1) ∷ x) (contexts-same m′ m (d - 1) p q)
+contexts-renew m m′ d u h e l p s q =
+    contexts-top m′ d h ∙
+    ap (λ x. contextAt m′ (d - 1) ∷ x) (contexts-same m′ m (d - 1) u (omega (arith, lent-same m′ m (d - 1) q, lent-less m d (d - 1) (omega arith))) l p s q)
 
-pub contexts-store : (m : List Slot) (d j : ℕ) (v : Slot) → 0 < d → d ≤ 12 → j < 50 → 2400 ≤ length m
+pub contexts-store : (m : List Slot) (d u j : ℕ) (v : Slot) → 0 < d → d ≤ 12 → lent m d ≤ u → u ≤ 1024 → j < 50 → 2400 ≤ length m → frameOf (getD m (1752 + (d - 1)) nil) ≡ frameAt (d - 1)
     → contextsOf (set m (frameAt (d - 1) + j) v) d ≡ storeIn j (valueIn v) (contextsOf m d)
 unfolding storeIn contextAt contextIn
-contexts-store m d j v h l t room =
+contexts-store m d u j v h l e f t room own =
     let k = frameAt (d - 1) + j in
-    contexts-renew m (set m k v) d h l (same-set m k v 128 _ (inr (omega arith))) (same-set m k v 1752 _ (inl (omega arith))) ∙
-    (rw (contexts-top m d h, values-store m (frameAt (d - 1)) 50 j v t (omega arith), same-set m k v 1752 (1752 + d) (inl (omega arith)) (1752 + (d - 1)) (omega arith) (omega arith)) refl)
+    contexts-renew m (set m k v) d u h e f (same-set m k v 128 _ (inr (omega arith))) (same-set m k v 728 _ (inl (omega arith))) (same-set m k v 1752 _ (inl (omega arith))) ∙
+    (rw (contexts-top m d h, same-set m k v 1752 (1752 + d) (inl (omega arith)) (1752 + (d - 1)) (omega arith) (omega arith), own, values-store m (frameAt (d - 1)) 50 j v t (omega arith)) refl)
 
 -- ---- the values above the topmost mark, one by one
 

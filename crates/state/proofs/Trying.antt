@@ -13,8 +13,8 @@ use Rattle.machine.specs.State.{Entry, State}
 use Rattle.machine.specs.Contexts.{above, from}
 use Rattle.machine.specs.Engine.{fits, limited, withStack, values, pops}
 use Rattle.state.specs.declared.Registers.{Registers}
-use Rattle.state.specs.Layout.{stackOf, aside, abs, Busy, answer, Tried}
-use Rattle.state.proofs.Parts.{values-same, contexts-same, length-stack, length-values, length-contexts, aside-same}
+use Rattle.state.specs.Layout.{stackOf, aside, abs, lent, Busy, answer, Tried}
+use Rattle.state.proofs.Parts.{values-same, lent-same, contexts-same, length-stack, length-values, length-contexts, aside-same}
 use Rattle.state.proofs.Ending.{state-path}
 use Rattle.state.proofs.Cutting.{over-drop, stack-dropped}
 
@@ -25,7 +25,7 @@ trying r height depth used b = record { height = height; depth = depth; used = u
 abbrev pub failed : Registers → Registers
 failed r = trying r (r .height) (r .depth) (r .used) false
 
-clash : {X : Type 0} → true ≡ false → X
+pub clash : {X : Type 0} → true ≡ false → X
 clash e = let z : _≡_ {A = ℕ} 0 1 = cc in absurd (omega arith)
 
 pub tried-no : {f : State → Option State} {w : List ℕ} {r r′ : Registers} → Busy w r → f (abs w r) ≡ none → r′ ≡ failed r → Tried f w r w r′
@@ -50,12 +50,16 @@ tried-from e n t = record { busy = t .busy; does = t .does ∙ sym e; back = t .
 pub aside-above : (w w′ : List ℕ) → Same (slots w′) (slots w) 128 1814 → aside w′ ≡ aside w
 aside-above w w′ h = aside-same w′ w (λ k f t. h k (omega arith) t)
 
+-- and so are the frames
+pub lent-above : (w w′ : List ℕ) (d : ℕ) → d ≤ 12 → Same (slots w′) (slots w) 128 1814 → lent (slots w′) d ≡ lent (slots w) d
+lent-above w w′ d f h = lent-same (slots w′) (slots w) d (λ k a b. h k (omega arith) (omega arith))
+
 pub stack-only : (w w′ : List ℕ) (r : Registers) (height : ℕ) (l : List Entry) → Busy w r → Same (slots w′) (slots w) 128 1814 → stackOf (slots w′) height ≡ l → abs w′ (trying r height (r .depth) (r .used) true) ≡ withStack l (abs w r)
 stack-only w w′ r height l g h e =
     let m = slots w in
     let m′ = slots w′ in
     state-path e
-    (contexts-same m′ m (r .depth) (λ k f t. h k f (omega arith)) (λ k f t. h k (omega arith) (omega arith)))
+    (contexts-same m′ m (r .depth) (r .used) (omega (arith, lent-above w w′ (r .depth) (g .depth-fits) h)) (g .cells-fit) (λ k f t. h k f (omega arith)) (λ k f t. h k (omega arith) (omega arith)) (λ k f t. h k (omega arith) (omega arith)))
     (values-same m′ m 128 50 (λ k f t. h k f (omega arith)))
     (values-same m′ m 728 (r .used) (λ k f t. h k (omega arith) (omega arith)))
 

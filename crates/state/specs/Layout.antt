@@ -1,13 +1,13 @@
--- How the state of the machine lies in a table of 2400 slots and a few registers: the stack in the slots 0 to 127; the frame of context i
--- from 128 + 50 i on; the cells from 728 on; context i in the slot 1752 + i; from 1764 on a frame kept aside; from 1814 on room for 128
--- entries on their way. The table is read totally: whatever words stand in it, they are a state. In order: a value in a slot; the parts;
--- the state; what holds of it; what an operation promises. Assumes nothing.
+-- How the state of the machine lies in a table of 2400 slots and a few registers: the stack in the slots 0 to 127; from 128 + 50 i on the
+-- frame of context i, once it has been stored to; the cells from 728 on; context i in the slot 1752 + i; from 1764 on a frame kept aside;
+-- from 1814 on room for 128 entries on their way. The table is read totally: whatever words stand in it, they are a state. In order: a
+-- value in a slot; the parts; the state; what holds of it; what an operation promises. Assumes nothing.
 use mathlib.Core.Path.{_≡_}
-use mathlib.Core.Bool.{Bool, true, false, cond}
+use mathlib.Core.Bool.{Bool, true, false, cond, _&&_}
 use mathlib.Core.List.{List, [], _∷_, map}
 use mathlib.Core.Option.{Option, none, some}
 use Prim.Native.Nat.{ℕ, zero, suc, _+_, _-_, _*_, _%_, _≤_, _<_}
-use lib.Dec.{eqb}
+use lib.Dec.{eqb, leb}
 use lib.ListN.{length, getD, set, take}
 use mir.Syntax.{w32}
 use mir.Val.{toZ}
@@ -51,12 +51,17 @@ valuesAt m b n = map valueIn (asc m b n)
 abbrev pub frameAt : ℕ → ℕ
 frameAt i = 128 + 50 * i
 
--- identity, origin, place, end, owes (1)
+-- Until its body stores to it, a frame stays where it was found: in the cells, or where the caller's is. The last word of a context says how
+-- many slots from 128 on it lies, and from 4096 on that the context owes too.
+abbrev pub frameOf : Slot → ℕ
+frameOf v = 128 + v .d % 4096
+
+-- identity, origin, place, end, frame and owes
 unfoldable pub contextIn : Slot → List Value → Context
-contextIn v f = record { id = v .kind; origin = v .a; at = v .b; end = v .c; owes = eqb (v .d) 1; frame = f }
+contextIn v f = record { id = v .kind; origin = v .a; at = v .b; end = v .c; owes = leb 4096 (v .d); frame = f }
 
 unfoldable pub contextAt : List Slot → ℕ → Context
-contextAt m i = contextIn (getD m (1752 + i) nil) (valuesAt m (frameAt i) frameSize)
+contextAt m i = let v = getD m (1752 + i) nil in contextIn v (valuesAt m (frameOf v) frameSize)
 
 -- d contexts, the running one first
 unfoldable pub contextsOf : List Slot → ℕ → List Context
@@ -81,12 +86,23 @@ abs w r = record {
 
 -- ---- what holds of it
 
+-- how many cells the frame of context i takes, which lies k slots from 128 on: its own, or that of a context below it, none; one in the
+-- cells those up to its end; anything else, and one of the engine's body in the cells, more than there are
+unfoldable pub lentBy : ℕ → ℕ → ℕ
+lentBy i k = cond (eqb k (50 * i)) 0 (cond (leb (k + 50) (50 * i)) 0 (cond (leb 1 i && leb 600 k) (k - 550) (suc mostCells)))
+
+-- the most that one of d contexts takes
+unfoldable pub lent : List Slot → ℕ → ℕ
+lent m zero = 0
+lent m (suc i) = lent m i + (lentBy i (getD m (1752 + i) nil .d % 4096) - lent m i)
+
 -- between steps
 pub record Good (w : List ℕ) (r : Registers) : Type 0 where
   pub room : scratchSize ≤ length w
   pub stack-fits : r .height ≤ mostEntries
   pub depth-fits : r .depth ≤ mostContexts
   pub cells-fit : r .used ≤ mostCells
+  pub frames-fit : lent (slots w) (r .depth) ≤ r .used
   pub errors-fit : r .errors ≤ r .steps
 
 -- within a step: there is a running context, the step is counted, an error of it not yet
@@ -96,6 +112,7 @@ pub record Busy (w : List ℕ) (r : Registers) : Type 0 where
   pub depth-fits : r .depth ≤ mostContexts
   pub runs : 0 < r .depth
   pub cells-fit : r .used ≤ mostCells
+  pub frames-fit : lent (slots w) (r .depth) ≤ r .used
   pub errors-fit : r .errors < r .steps
   pub steps-fit : r .steps < 4294967296
 

@@ -1,22 +1,22 @@
 -- What operations of the table mean where the definitions of the machine say it within a larger one. Assumes nothing.
-use Prim.Native.Nat.{ℕ, zero, suc, _+_}
+use Prim.Native.Nat.{ℕ, zero, suc, _+_, _-_, _<_}
 use mathlib.Core.Path.{_≡_}
 use mathlib.Core.Bool.{Bool, true, false}
 use mathlib.Core.List.{List, [], _∷_, map}
 use mathlib.Core.Option.{Option}
 use lib.ListN.{length, getD, set, take, drop}
 use Rattle.table.specs.declared.Slot.{Slot}
-use Rattle.table.specs.Slots.{mk, slots, asc, copied}
+use Rattle.table.specs.Slots.{nil, mk, slots, asc, copied}
 use Rattle.machine.specs.declared.Value.{Value}
 use Rattle.machine.specs.declared.Value.the-variants.{Identifier, Vector}
-use Rattle.machine.specs.Limits.{frameSize}
+use Rattle.machine.specs.Limits.{frameSize, mostEntries}
 use Rattle.machine.specs.State.{Entry, val, Context, State, running}
 use Rattle.machine.specs.State as state
 use Rattle.machine.specs.Literal.{lettersAt}
 use Rattle.machine.specs.Contexts.{settle}
 use Rattle.machine.specs.Engine.{withStack, push, charge, enter}
 use Rattle.state.specs.declared.Registers.{Registers}
-use Rattle.state.specs.Layout.{valueIn, entryIn, valuesAt, frameAt, aside, abs, Good}
+use Rattle.state.specs.Layout.{valueIn, entryIn, valuesAt, frameAt, frameOf, aside, abs, Good, Busy}
 
 -- two values, the second on top
 unfoldable pub pushTwo : Value → Value → State → Option State
@@ -63,9 +63,13 @@ inline at end owes s = let c = running (s .contexts) in enter (entered (c .origi
 unfoldable pub call : ℕ → ℕ → ℕ → ℕ → State → Option State
 call origin at end first s = enter (entered origin at end false (take frameSize (drop first (s .cells))) s) s
 
--- the context d, its frame copied from the slot s on
-unfoldable pub contextPut : List Slot → ℕ → ℕ → ℕ → ℕ → ℕ → ℕ → ℕ → List Slot
-contextPut m id d s origin at end owes = set (copied m s (frameAt d) frameSize) (1752 + d) (mk id origin at end owes)
+-- the running frame is the running context's own, and nothing else has changed
+pub record Owned (w : List ℕ) (r : Registers) (w′ : List ℕ) : Type 0 where
+  pub busy : Busy w′ r
+  pub own : frameOf (getD (slots w′) (1752 + (r .depth - 1)) nil) ≡ frameAt (r .depth - 1)
+  pub same : abs w′ r ≡ abs w r
+  pub keeps : aside w′ ≡ aside w
+  pub stands : (k : ℕ) → k < mostEntries → getD (slots w′) k nil ≡ getD (slots w) k nil
 
 -- n slots from b on are 0
 unfoldable pub filled : List Slot → ℕ → ℕ → List Slot

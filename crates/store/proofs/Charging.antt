@@ -22,7 +22,7 @@ use Rattle.machine.specs.State.{Entry, val, mark, State, running}
 use Rattle.machine.specs.Contexts.{above, over}
 use Rattle.machine.specs.Engine.{fits, limited, provided, values, charge, build, compose, place}
 use Rattle.state.specs.declared.Registers.{Registers}
-use Rattle.state.specs.Layout.{valueIn, entryIn, stackOf, valuesAt, frameAt, contextIn, abs, Busy, Tried}
+use Rattle.state.specs.Layout.{valueIn, entryIn, stackOf, valuesAt, frameOf, contextIn, abs, Busy, Tried}
 use lib.ListN.{length-map}
 use lib.Seq.{sets, length-sets, slice, slice-cons}
 use Rattle.tokens.specs.Joined.{Joined, whole, cutAt, dataOf, joinedAt, FitsText}
@@ -32,9 +32,10 @@ use Rattle.machine.specs.Literal.{numbers, lettersAt}
 use Rattle.state.specs.Operations.{letterSlots, VectorPut, spell}
 use Rattle.state.proofs.Coding.{vector-slot}
 use Rattle.state.proofs.Cutting.{map-append}
-use Rattle.state.proofs.Parts.{wide, room-of, stack-same, values-same, contexts-same, aside-same, length-stack, length-values, length-contexts, stack-more, contexts-at}
+use Rattle.state.proofs.Parts.{wide, room-of, stack-same, values-same, lent-same, contexts-same, aside-same, length-stack, length-values, length-contexts, stack-more, contexts-at}
 use Rattle.state.proofs.Ending.{state-path}
 use Rattle.state.proofs.Cutting.{over-take, over-above, over-drop, stack-taken, stack-dropped, values-moved, values-cut}
+use Rattle.state.proofs.Framing.{frame-inside}
 use Rattle.state.proofs.Trying.{trying, failed, tried-no, tried-yes, fits-abs}
 use Rattle.state.proofs.Stacking.{above-few, enough, few}
 
@@ -96,7 +97,7 @@ module _ {w : List ℕ} {r : Registers} (a n : ℕ) (v : Slot) (e : Value) (new 
         let room = wide w (g .room) in
         state-path
         (rw (p, stack-more m₁ a v (omega arith), is) (ap (λ x. val e ∷ x) (stack-same m₁ m a (λ k s t. low k s (omega arith)))))
-        (contexts-same (slots w′) m (r .depth) (put-low 128 _ al (omega arith)) (put-high 1752 _ (omega arith) (omega arith)))
+        (contexts-same (slots w′) m (r .depth) (r .used) (omega (arith, lent-same (slots w′) m (r .depth) (put-high 1752 _ (omega arith) (omega arith)))) (g .cells-fit) (put-low 128 _ al (omega arith)) (put-low 728 _ (omega arith) (omega arith)) (put-high 1752 _ (omega arith) (omega arith)))
         (values-same (slots w′) m 128 50 (put-low 128 _ al (omega arith)))
         (rw p (values-same m′ m₁ 728 (r .used + n) (same-set m₁ a v 728 _ (inl (omega arith))) ∙ values-cut m₁ 728 (r .used) n ∙
         ap₂ _++_ (values-same m₁ m 728 (r .used) (λ k s t. low k (omega arith) t)) made))
@@ -108,7 +109,7 @@ module _ {w : List ℕ} {r : Registers} (a n : ℕ) (v : Slot) (e : Value) (new 
         → r′ ≡ trying r (a + 1) (r .depth) (r .used + n) true → Tried f w r w′ r′
     charged-tried f {r′} meant q =
         let rm = charged-room in
-        rw q (tried-yes (omega arith) (aside-same w′ w (put-high 1764 1814 (omega arith) (omega arith))) refl refl
+        rw q (tried-yes (omega (arith, lent-same (slots w′) (slots w) (r .depth) (put-high 1752 _ (omega arith) (omega arith)))) (aside-same w′ w (put-high 1764 1814 (omega arith) (omega arith))) refl refl
         (meant ∙ (rw (← charged-abs) (fits-abs w′ (trying r (a + 1) (r .depth) (r .used + n) true) (omega arith) (g .depth-fits) room₁))))
 
 -- a charge that fails
@@ -178,7 +179,7 @@ unfolding entryIn valueIn
 operator-entry o s l f = refl
 
 module _ {w : List ℕ} {r : Registers} (s l : ℕ) (g : Busy w r) where
-  compose-is : (c : Slot) → c ≡ getD (slots w) (1752 + (r .depth - 1)) nil → compose s l (abs w r) ≡ limited (withCells (val (Operator (c .a) s l (r .used)) ∷ stackOf (slots w) (r .height)) (valuesAt (slots w) 728 (r .used) ++ valuesAt (slots w) (frameAt (r .depth - 1)) 50) (abs w r))
+  compose-is : (c : Slot) → c ≡ getD (slots w) (1752 + (r .depth - 1)) nil → compose s l (abs w r) ≡ limited (withCells (val (Operator (c .a) s l (r .used)) ∷ stackOf (slots w) (r .height)) (valuesAt (slots w) 728 (r .used) ++ valuesAt (slots w) (frameOf c) 50) (abs w r))
   unfolding compose charge running contextIn over
   compose-is c got = rw (length-values, contexts-at (slots w) (r .depth) c (g .runs) got, over-above (stackOf (slots w) (r .height)))
 
@@ -187,13 +188,14 @@ module _ {w : List ℕ} {r : Registers} (s l : ℕ) (g : Busy w r) where
 
   module _ (st : r .height < 128) where
     pub compose-over : {r′ : Registers} → 1024 < r .used + 50 → r′ ≡ failed r → Tried (compose s l) w r w r′
-    compose-over {r′} f q = charge-over (compose s l) _ _ g (compose-is _ refl) (omega (arith, length-stack (slots w) (r .height))) (omega (arith, cells-long w (r .used) (frameAt (r .depth - 1)) 50)) q
+    compose-over {r′} f q = charge-over (compose s l) _ _ g (compose-is _ refl) (omega (arith, length-stack (slots w) (r .height))) (omega (arith, cells-long w (r .used) (frameOf (getD (slots w) (1752 + (r .depth - 1)) nil)) 50)) q
 
-    pub compose-yes : {w′ : List ℕ} {r′ : Registers} (w₁ : List ℕ) (f : ℕ) (c : Slot) → r .used + 50 ≤ 1024 → c ≡ getD (slots w) (1752 + (r .depth - 1)) nil → slots w₁ ≡ copied (slots w) (128 + 50 * (r .depth - 1)) (728 + r .used) 50 → f ≡ r .used → slots w′ ≡ set (slots w₁) (r .height) (mk 4 (c .a) s l f)
+    pub compose-yes : {w′ : List ℕ} {r′ : Registers} (w₁ : List ℕ) (f : ℕ) (c : Slot) → r .used + 50 ≤ 1024 → c ≡ getD (slots w) (1752 + (r .depth - 1)) nil → slots w₁ ≡ copied (slots w) (frameOf c) (728 + r .used) 50 → f ≡ r .used → slots w′ ≡ set (slots w₁) (r .height) (mk 4 (c .a) s l f)
         → r′ ≡ trying r (r .height + 1) (r .depth) (r .used + 50) true → Tried (compose s l) w r w′ r′
     compose-yes {w′} {r′} w₁ f c u got p₁ ef p q =
         let m = slots w in
-        let a = frameAt (r .depth - 1) in
+        let a = frameOf c in
+        let ends = frame-inside w r c g got in
         let room = wide w (g .room) in
         let m₁ = copied m a (728 + r .used) 50 in
         charged-tried (r .height) 50 (mk 4 (c .a) s l (r .used)) (Operator (c .a) s l (r .used)) _ m₁ g st u (operator-entry _ _ _ _) (length-copied m a (728 + r .used) 50)

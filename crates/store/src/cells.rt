@@ -87,7 +87,7 @@ pub fn compose(w: &mut [u8], r: Registers, start: u32, len: u32) -> Registers
         return state::stack::failed(r);
     }
     let c = table::slots::get(w, 1752 + (d - 1));
-    table::slots::copy_long(w, 128 + 50 * (d - 1), 728 + used, 50);
+    table::slots::copy_long(w, 128 + table::words::size(c.d % 4096), 728 + used, 50);
     let first = table::words::word(used);
     table::slots::put(
         w,

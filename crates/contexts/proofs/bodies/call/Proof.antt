@@ -1,7 +1,7 @@
 -- `bodies::call` meets its contract. Assumes nothing.
-use borrow.Author.Needs.{needs}
-use Prim.Native.Nat.{_-_}
+use mathlib.Core.Path.{refl}
 use Rattle.contexts.proofs.Entering.{call-full, call-yes}
+use borrow.Author.Needs.{needs}
 use Rattle.contexts.proofs.bodies.call.Statement.{statement}
 use Rattle.contexts.proofs.bodies.call.Tie as tie
 
@@ -13,6 +13,8 @@ call-spec =
     (λ c. search (needs, call-full))
     (λ c. search needs)
     (λ c κs. search needs)
+    (λ c κs. search needs)
+    (λ c κs. search needs)
     (λ c. search needs)
     (λ c. search needs)
-    (λ c. search (needs, call-yes)))
+    (λ c. call-yes _ _ _ _ (c .before .before .before .before .before .before .before .before .pre .0) (c .before .before .before .before .before .before .before .before .pre .1) _ _ (c .before .before .before .before .before .before .if1 .left) (c .before .before .before .before .before .word .ensures) (c .before .before .before .before .lying .ensures) (c .before .before .put-context .ensures) refl))

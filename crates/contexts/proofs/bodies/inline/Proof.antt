@@ -1,8 +1,7 @@
 -- `bodies::inline` meets its contract. Assumes nothing.
-use borrow.Author.Needs.{needs}
 use mathlib.Core.Path.{refl}
-use Prim.Native.Nat.{_-_}
 use Rattle.contexts.proofs.Entering.{inline-full, inline-yes}
+use borrow.Author.Needs.{needs}
 use Rattle.contexts.proofs.bodies.inline.Statement.{statement}
 use Rattle.contexts.proofs.bodies.inline.Tie as tie
 
@@ -16,10 +15,7 @@ inline-spec =
     (λ c. search needs)
     (λ c κs. search needs)
     (λ c κs. search needs)
-    (λ c. search needs)
-    (λ c. search needs)
-    (λ c. search needs)
     (λ c κs. search needs)
     (λ c. search needs)
     (λ c. search needs)
-    (λ c. inline-yes _ _ _ (c .before .before .before .before .before .before .before .before .before .pre) _ _ (c .before .before .before .before .before .before .before .if1 .left) (c .before .before .before .before .before .get .ensures) (c .before .before .before .before .owing .ensures) (c .before .before .put-context .ensures) refl))
+    (λ c. inline-yes _ _ _ (c .before .before .before .before .before .before .before .before .before .before .pre) _ _ (c .before .before .before .before .before .before .before .before .if1 .left) (c .before .before .before .before .before .before .get .ensures) (c .before .before .before .before .lying .ensures) (c .before .before .put-context .ensures) refl))

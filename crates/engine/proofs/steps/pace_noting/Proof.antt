@@ -1,8 +1,7 @@
 -- `steps::pace_noting` meets its contract. Assumes nothing.
 use borrow.Author.Needs.{needs}
 use mathlib.Core.Path.{refl}
-use native.Mathlib.Omega.{arith}
-use Rattle.engine.proofs.Leading.{stands-now, ready-now, pace-settles, pace-faults}
+use Rattle.engine.proofs.Leading.{stands-now, ready-now, pace-settles, pace-recovers, pace-faults}
 use Rattle.engine.proofs.steps.pace_noting.Statement.{statement}
 use Rattle.engine.proofs.steps.pace_noting.Tie as tie
 
@@ -19,7 +18,7 @@ pace-noting-spec =
     (λ c. search needs)
     (λ c. (pace-settles _ _ (c .before .before .before .before .before .before .before .before .before .before .before .literal .ensures .0) (c .before .before .before .before .if1 .taken) (c .before .before .settle .ensures), c .before .before .before .before .before .before .before .before .before .before .before .literal .ensures .1))
     (λ c. search needs)
-    (λ c κs. (record { room = c .before .before .before .before .before .before .before .before .before .literal .ensures .0 .busy .room; stack-fits = c .before .before .before .before .before .before .before .before .before .before .before .before .before .before .before .before .before .before .before .before .before .pre .0 .stack-fits; depth-fits = c .before .before .before .before .before .before .before .before .before .before .before .before .before .before .before .before .before .before .before .before .before .pre .0 .depth-fits; cells-fit = c .before .before .before .before .before .before .before .before .before .before .before .before .before .before .before .before .before .before .before .before .before .pre .0 .cells-fit; errors-fit = omega (arith, c .before .before .before .before .before .before .before .before .before .before .before .before .before .before .before .before .before .before .before .before .before .pre .0 .errors-fit) }, omega (arith, c .before .before .before .before .before .before .before .before .before .before .before .before .before .before .before .before .before .before .before .before .before .pre .0 .errors-fit)))
+    (λ c κs. pace-recovers _ _ (c .before .before .before .before .before .before .before .before .before .literal .ensures .0) (c .before .before .before .before .before .before .before .before .before .before .before .before .before .before .before .before .before .before .before .before .before .pre .0) (c .before .before .if1 .left))
     (λ c. search needs)
     (λ c. search needs)
     (λ c. search needs)

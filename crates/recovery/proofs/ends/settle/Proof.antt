@@ -2,11 +2,11 @@
 use borrow.Author.Needs.{needs}
 use Rattle.state.proofs.Parts.{aside-put}
 use mathlib.Core.Path.{_≡_, refl}
-use Prim.Native.Nat.{_-_, _<_}
+use Prim.Native.Nat.{_<_}
 use lib.ListN.{length}
 use Rattle.machine.specs.Contexts.{settle}
 use Rattle.state.specs.Layout.{Good, abs, aside}
-use Rattle.state.proofs.Ending.{leave-all, leave-stop, leave-on, leave-pay, leave-full}
+use Rattle.state.proofs.Ending.{left-good, paid-good, leave-all, leave-stop, leave-on, leave-pay, leave-full}
 use Rattle.recovery.proofs.ends.settle.Statement.{statement}
 use Rattle.recovery.proofs.ends.settle.Tie as tie
 
@@ -30,14 +30,14 @@ settle-spec =
     (λ c. record { good = search needs; does = search (needs, leave-stop); keeps = search needs; counted = search needs })
     (λ c. search needs)
     (λ c. search needs)
-    (λ c. (search needs, search needs, search needs, search needs, search needs, search (needs, leave-on)))
-    (λ c κs. search needs)
+    (λ c. (search (needs, left-good), search needs, search needs, search needs, search needs, search (needs, leave-on)))
+    (λ c κs. search (needs, left-good))
     (λ c. search needs)
     (λ c. record { good = search needs; does = leave-full _ _ (c .before .before .before .before .before .before .before .before .before .before .before .loop .inv .5) _ (c .before .before .before .before .before .before .before .get .ensures) (c .before .before .before .before .before .before .before .before .before .if1 .taken) (c .before .before .before .before .before .if2 .left) (c .before .before .before .if3 .left) (c .before .before .if4 .taken) refl (c .fault .ensures); keeps = search needs; counted = search needs })
     (λ c κs. search needs)
     (λ c κs. search needs)
     (λ c. search needs)
     (λ c. search needs)
-    (λ c. (search needs, search needs, search needs, search (needs, aside-put), search needs, leave-pay _ _ (c .before .before .before .before .before .before .before .before .before .before .before .before .before .before .loop .inv .5) _ (c .before .before .before .before .before .before .before .before .before .before .get .ensures) (c .before .before .before .before .before .before .before .before .before .before .before .before .if1 .taken) (c .before .before .before .before .before .before .before .before .if2 .left) _ _ (c .before .before .before .before .before .before .before .before .before .before .before .before .before .before .loop .inv .0) (c .before .before .before .before .before .before .if3 .left) (c .before .before .before .before .before .if4 .left) (c .before .before .before .zero .ensures) (c .before .before .put .ensures) refl))
+    (λ c. (search (needs, paid-good), search needs, search needs, search (needs, aside-put), search needs, leave-pay _ _ (c .before .before .before .before .before .before .before .before .before .before .before .before .before .before .loop .inv .5) _ (c .before .before .before .before .before .before .before .before .before .before .get .ensures) (c .before .before .before .before .before .before .before .before .before .before .before .before .if1 .taken) (c .before .before .before .before .before .before .before .before .if2 .left) _ _ (c .before .before .before .before .before .before .before .before .before .before .before .before .before .before .loop .inv .0) (c .before .before .before .before .before .before .if3 .left) (c .before .before .before .before .before .if4 .left) (c .before .before .before .zero .ensures) (c .before .before .put .ensures) refl))
     (λ c. search needs)
     (λ c. record { good = search needs; does = search (needs, leave-all); keeps = search needs; counted = search needs }))

@@ -1,8 +1,9 @@
 -- `cells::compose` meets its contract. Assumes nothing.
-use borrow.Author.Needs.{needs}
-use mathlib.Core.Path.{refl}
-use Prim.Native.Nat.{_-_}
 use Rattle.store.proofs.Charging.{compose-full, compose-over, compose-yes}
+use Rattle.state.proofs.Framing.{frame-inside}
+use mathlib.Core.Path.{refl}
+use native.Mathlib.Omega.{arith}
+use borrow.Author.Needs.{needs}
 use Rattle.store.proofs.cells.compose.Statement.{statement}
 use Rattle.store.proofs.cells.compose.Tie as tie
 
@@ -18,14 +19,13 @@ compose-spec =
     (λ c. search needs)
     (λ c. search needs)
     (λ c κs. search needs)
-    (λ c. search needs)
-    (λ c. search needs)
-    (λ c. search needs)
-    (λ c. search needs)
-    (λ c κs. search needs)
-    (λ c κs. search needs)
     (λ c κs. search needs)
     (λ c. search needs)
     (λ c. search needs)
+    (λ c κs. (omega (arith, c .before .before .before .before .before .before .before .before .pre .room, c .before .before .before .before .before .before .before .before .pre .cells-fit, c .size .ensures .0, frame-inside _ _ _ (c .before .before .before .before .before .before .before .before .pre) (c .before .before .before .get .ensures)), omega (arith, c .before .before .before .before .before .before .before .before .pre .room, c .before .before .before .before .before .if2 .left)))
+    (λ c κs. search needs)
+    (λ c κs. search needs)
     (λ c. search needs)
-    (λ c. compose-yes _ _ (c .before .before .before .before .before .before .before .before .before .before .before .before .before .before .pre) (c .before .before .before .before .before .before .before .before .before .before .before .before .if1 .left) _ _ _ (c .before .before .before .before .before .before .before .before .before .before .before .if2 .left) (c .before .before .before .before .before .before .before .before .before .get .ensures) (c .before .before .before .before .before .before .before .copy-long .ensures) (c .before .before .before .before .word .ensures) (c .before .before .put .ensures) refl))
+    (λ c. search needs)
+    (λ c. search needs)
+    (λ c. compose-yes _ _ (c .before .before .before .before .before .before .before .before .before .before .before .before .before .before .before .before .pre) (c .before .before .before .before .before .before .before .before .before .before .before .before .before .before .if1 .left) _ _ _ (c .before .before .before .before .before .before .before .before .before .before .before .before .before .if2 .left) (c .before .before .before .before .before .before .before .before .before .before .before .get .ensures) (rw (c .before .before .before .before .before .before .before .before .size .ensures .0) at (c .before .before .before .before .before .before .before .copy-long .ensures)) (c .before .before .before .before .word .ensures) (c .before .before .put .ensures) refl))
