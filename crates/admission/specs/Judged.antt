@@ -10,7 +10,7 @@ use Rattle.tokens.specs.declared.Refusal.{Refusal}
 use Rattle.tokens.specs.declared.Outcome.{Outcome}
 use Rattle.tokens.specs.declared.Outcome.the-variants.{Done, Refused}
 use Rattle.machine.specs.Promise.{Verdict, halted, allowed, admitted}
-use Rattle.machine.proofs.Readable.{Whole}
+use Rattle.machine.specs.Readable.{Whole}
 use Rattle.skeleton.specs.Spans.{Placed}
 
 -- a master that may run, with its last page's number: its bodies stand where t says and are readable, and the verdict is by them

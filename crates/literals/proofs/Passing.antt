@@ -23,7 +23,8 @@ use Rattle.machine.specs.declared.Literal.the-variants.{Figure, Plain}
 use Rattle.machine.specs.Skeleton.{roleOf, solid}
 use Rattle.machine.specs.Literal.{Found, found, nothingAt, operatorBy, foundBy, foundAt}
 use Rattle.machine.specs.Step.{isUnmark0}
-use Rattle.machine.proofs.Comments.{NoComment, never, Comments, none-at, one-at, comments-are}
+use Rattle.machine.specs.Readable.{NoComment}
+use Rattle.machine.proofs.Comments.{never, Comments, none-at, one-at, comments-are}
 use Rattle.machine.proofs.Inside.{token-inside}
 use Rattle.nesting.proofs.BodyTurns.{NoOperator, number-shown, operator-shown, cut-shown, operator-ends, no-operator}
 use Rattle.literals.specs.declared.Due.{Due}

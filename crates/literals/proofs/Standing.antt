@@ -15,8 +15,8 @@ use Rattle.machine.specs.Limits.{mostOpen}
 use Rattle.machine.specs.Skeleton.{oneOf, roleOf, solid, due, bodyAt}
 use Rattle.machine.specs.Literal.{Found, holdingBy, holdingAt, operatorBy, foundBy, foundAt}
 use Rattle.machine.specs.Step.{isUnmark0}
-use Rattle.machine.proofs.Comments.{NoComment, Comments, none-at, one-at, never, comments-are}
-use Rattle.machine.proofs.Readable.{IsLiteral, a-number, an-identifier, a-string, an-operator, a-holder}
+use Rattle.machine.specs.Readable.{NoComment, IsLiteral, a-number, an-identifier, a-string, an-operator, a-holder}
+use Rattle.machine.proofs.Comments.{Comments, none-at, one-at, never, comments-are}
 use Rattle.spans.specs.Memo.{BodyEnds}
 use Rattle.literals.specs.declared.Ahead.{Ahead}
 use Rattle.literals.specs.Dues.{LiteralThere, Passes, PastOperator}

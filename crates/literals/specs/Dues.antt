@@ -10,7 +10,7 @@ use Rattle.machine.specs.Limits.{mostOpen}
 use Rattle.machine.specs.Skeleton.{roleOf, solid, bodyAt}
 use Rattle.machine.specs.Literal.{Found, foundAt}
 use Rattle.machine.specs.Step.{isUnmark0}
-use Rattle.machine.proofs.Readable.{IsLiteral}
+use Rattle.machine.specs.Readable.{IsLiteral}
 use Rattle.literals.specs.declared.Ahead.{Ahead}
 use Rattle.literals.specs.declared.Bare.{Bare}
 use Rattle.literals.specs.declared.Due.{Due}

@@ -14,7 +14,8 @@ use Rattle.machine.specs.Skeleton.{opening, closing, solid, due, literal
 use Rattle.machine.proofs.JoinedLocal.{View, view}
 use Rattle.machine.proofs.Inside.{token-inside}
 use Rattle.machine.proofs.TokenLocal.{EndsBy, back, begins-before, token-in}
-use Rattle.machine.proofs.Comments.{operator-beyond, NoComment, Comments, none-at, one-at, comments-later, solid-is, comments-are}
+use Rattle.machine.specs.Readable.{NoComment}
+use Rattle.machine.proofs.Comments.{operator-beyond, Comments, none-at, one-at, comments-later, solid-is, comments-are}
 use Rattle.machine.proofs.Bodies.{Passing, figure, name, text, comment, plain, holding, Passes, stop, more, Parts, due-of, due-is, literals-parts, literals-of, passing-later, passes-later, parts-of, no-body, body-later, body-ends, body-of}
 
 no-comment-back : (a : ℕ) (t : Read) → NoComment t → NoComment (back a t)

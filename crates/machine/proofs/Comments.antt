@@ -14,6 +14,7 @@ use Rattle.tokens.specs.Token.{sequence, pair, tokenOf, tokenAt}
 use Rattle.numbers.proofs.Cond.{either}
 use Rattle.tokens.proofs.Theorems.{token-end}
 use Rattle.machine.specs.Skeleton.{pastComment, solidFrom, solid}
+use Rattle.machine.specs.Readable.{NoComment}
 use Rattle.machine.proofs.Inside.{token-inside}
 use Rattle.machine.proofs.TokenLocal.{judged-all}
 
@@ -26,14 +27,6 @@ pub operator-beyond : (s : List ℕ) (at n next : ℕ) → tokenAt s at ≡ Oper
 operator-beyond s at n next e = rw e at (token-inside s at)
 
 -- ---- comments
-
-abbrev pub NoComment : Read → Type 0
-NoComment (Number value next) = Unit
-NoComment (Identifier len next) = Unit
-NoComment (String count next) = Unit
-NoComment (Operator n next) = Unit
-NoComment (Comment next) = ⊥
-NoComment (Unread refusal place) = Unit
 
 -- from the place on, comments up to q, where there is none
 pub data Comments (s : List ℕ) : ℕ → ℕ → Type 0 where

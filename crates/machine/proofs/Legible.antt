@@ -17,7 +17,7 @@ use Rattle.machine.specs.Contexts.{atEnd, settle}
 use Rattle.machine.specs.Step.{ended, run, begin}
 use Rattle.machine.specs.Page.{preambleOf, pageStart}
 use Rattle.machine.specs.Isolation.{codeAt, startAt, moment, Bounded}
-use Rattle.machine.proofs.Readable.{IsLiteral, Readable, at-end, Whole}
+use Rattle.machine.specs.Readable.{IsLiteral, Readable, at-end, Whole}
 use Rattle.machine.proofs.SoundValues.{reading}
 use Rattle.machine.proofs.Recovery.{Due, leave-lands}
 use Rattle.machine.proofs.Steps.{by-contexts}

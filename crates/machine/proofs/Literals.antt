@@ -16,7 +16,8 @@ use Rattle.machine.specs.Contexts.{atEnd, failing, fault, settle, skippe
 use Rattle.machine.specs.Step.{begunIn, ended, dueIn, step, begin}
 use Rattle.machine.specs.Page.{bodiesOf, preambleOf}
 use Rattle.machine.specs.Isolation.{codeAt, moment}
-use Rattle.machine.proofs.Readable.{IsLiteral, Readable, at-end, literal, Whole, AllWhole, bodies-readable}
+use Rattle.machine.specs.Readable.{IsLiteral, Readable, at-end, literal, Whole}
+use Rattle.machine.proofs.Readable.{AllWhole, bodies-readable}
 use Rattle.machine.proofs.SoundValues.{Rest, reading, stays}
 use Rattle.machine.proofs.Recovery.{Lower, Due, anywhere, recover-lands, leave-lands, skip-lands}
 use Rattle.machine.proofs.Steps.{Begun, begins, by-contexts, step-by, Executed, execute-is}

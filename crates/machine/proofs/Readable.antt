@@ -1,5 +1,4 @@
--- A readable body: literals from its first place on, each found as one, up to its end; and so each body that a literal holds. Every body
--- of a sound skeleton is readable in its own bytes. In order: what it says; bodies inside; the bodies of a master. Assumes nothing.
+-- Every body of a sound skeleton is readable in its own bytes. In order: bodies inside; the bodies of a master. Assumes nothing.
 use Prim.Native.Nat.{ℕ, zero, suc, _+_, _-_, _<_, _≤_}
 use native.Mathlib.Omega.{arith}
 use mathlib.Core.Path.{_≡_, refl}
@@ -7,7 +6,6 @@ use mathlib.Core.List.{List, [], _∷_}
 use lib.Dec.{eqb, leb, lit≤}
 use lib.ListN.{length}
 use lib.Seq.{slice}
-use Rattle.numbers.specs.declared.Number as num
 use Rattle.tokens.specs.declared.Read.{Read}
 use Rattle.tokens.specs.declared.Read.the-variants as read
 use Rattle.tokens.specs.Format.{header, starts}
@@ -19,32 +17,15 @@ use Rattle.machine.specs.declared.Went.the-variants.{Past, Stop}
 use Rattle.machine.specs.declared.Literal.{Literal}
 use Rattle.machine.specs.declared.Literal.the-variants.{Figure, Name, Text, Plain, WithBody}
 use Rattle.machine.specs.Limits.{mostOpen, mostPages}
-use Rattle.machine.specs.Skeleton.{beginning, ending, opening, closing, roleOf, solid, due, bodyAt, Span, Skeleton, sound, refused, onward, spanOf, endedAt, pageAt, outerBy, pagesFrom, preambleAt, skeletonOf}
-use Rattle.machine.specs.Literal.{Found, found, holdingBy, holdingAt, operatorBy, foundBy, foundAt}
+use Rattle.machine.specs.Skeleton.{beginning, ending, opening, closing, solid, due, bodyAt, Span, Skeleton, sound, refused, onward, spanOf, endedAt, pageAt, outerBy, pagesFrom, preambleAt, skeletonOf}
+use Rattle.machine.specs.Literal.{found, holdingBy, holdingAt, operatorBy, foundBy, foundAt}
 use Rattle.machine.proofs.Throughout.{All, all-append}
 use Rattle.machine.proofs.JoinedLocal.{View, view}
 use Rattle.tokens.proofs.Theorems.{token-end}
-use Rattle.machine.proofs.Comments.{never, operator-beyond, two-bytes, NoComment, none-at, one-at, solid-is, comments-are}
+use Rattle.machine.specs.Readable.{NoComment, IsLiteral, a-number, an-identifier, a-string, an-operator, a-holder, Readable, at-end, literal, Whole}
+use Rattle.machine.proofs.Comments.{never, operator-beyond, two-bytes, none-at, one-at, solid-is, comments-are}
 use Rattle.machine.proofs.Bodies.{Passing, figure, name, text, comment, plain, holding, Passes, stop, more, passing-later, passes-later, parts-of, no-body, body-long}
 use Rattle.machine.proofs.BodyLocal.{body-more, literals-in}
-
--- ---- what it says
-
--- the token at the place is a number, an identifier, a string, an operator that is a literal by itself, or one that holds a body, whose
--- body is read; and this is the literal found
-pub data IsLiteral (b : List ℕ) (at : ℕ) : Found → Type 0 where
-  a-number : (value : num.Number) (next : ℕ) → tokenAt b at ≡ read.Number value next → IsLiteral b at (found b (Figure value) next)
-  an-identifier : (len next : ℕ) → tokenAt b at ≡ read.Identifier len next → IsLiteral b at (found b (Name at len) next)
-  a-string : (count next : ℕ) → tokenAt b at ≡ read.String count next → IsLiteral b at (found b (Text at) next)
-  an-operator : (n next : ℕ) → tokenAt b at ≡ read.Operator n next → roleOf n ≡ role.Plain → IsLiteral b at (found b (Plain n) next)
-  a-holder : (n inner next : ℕ) → tokenAt b at ≡ read.Operator n inner → roleOf n ≡ role.Holds → bodyAt mostOpen b inner ≡ Past next
-      → IsLiteral b at (found b (WithBody n (solid b inner + 2) (next - 2 - (solid b inner + 2))) next)
-
--- from the place on, literals up to the end, past comments
-pub data Readable (b : List ℕ) : ℕ → ℕ → Type 0 where
-  at-end : {end : ℕ} → Readable b end end
-  literal : {at end : ℕ} → at < end → IsLiteral b at (foundAt b at) → ((n start len : ℕ) → foundAt b at .literal ≡ WithBody n start len → Readable b (solid b start) (start + len))
-      → Readable b (foundAt b at .next) end → Readable b at end
 
 -- ---- bodies inside
 
@@ -89,10 +70,6 @@ module _ (b : List ℕ) where
       rw (solid-is b at (p .begins) (p .comments), y) (readable-from k (omega arith) (inside-readable k (omega arith)) (p .begins + 2) (p .ends) (rw (p .closes) tt) (p .literals))
 
 -- ---- the bodies of a master
-
--- the whole of a body's bytes
-abbrev pub Whole : List ℕ → Type 0
-Whole b = Readable b (solid b 0) (length b)
 
 -- a body of s, in its own bytes
 pub body-readable : (s : List ℕ) (k at next : ℕ) → k ≤ mostOpen → bodyAt k s at ≡ Past next → Whole (slice (solid s at + 2) (next - 2) s)

@@ -6,7 +6,7 @@ use mathlib.Core.List.{[], _++_}
 use lib.ListN.{length, length-append, List·getD-append}
 use Rattle.machine.specs.Skeleton.{solid}
 use Rattle.machine.specs.Literal.{Code, bytesOf}
-use Rattle.machine.proofs.Readable.{Readable}
+use Rattle.machine.specs.Readable.{Readable}
 use Rattle.machine.proofs.Held.{Claim}
 
 -- ---- what it says

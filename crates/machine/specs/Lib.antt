@@ -2,6 +2,7 @@ pub mod Limits
 pub mod Skeleton
 pub mod State
 pub mod Literal
+pub mod Readable
 pub mod Operand
 pub mod Ops
 pub mod Operators

@@ -38,7 +38,8 @@ use Rattle.machine.specs.declared.Passed.{Passed}
 use Rattle.machine.specs.declared.Passed.the-variants.{On, Closed, Bad}
 use Rattle.machine.specs.Skeleton.{opening, roleOf, pastComment, solidFrom, solid, follow, andThen, held, passing, dueBy, due, literalBy, literalsFrom, bodyAt, literalAt}
 use Rattle.machine.proofs.Inside.{EndsIn, token-inside, PassedIn, literal-later}
-use Rattle.machine.proofs.Comments.{NoComment, none-at, stays, solid-is}
+use Rattle.machine.specs.Readable.{NoComment}
+use Rattle.machine.proofs.Comments.{none-at, stays, solid-is}
 
 -- ---- comments
 

@@ -4,7 +4,7 @@ ghost use mathlib.Core.Bool.{true};
 ghost use Rattle.tokens.specs.declared.Refusal.the-variants.{CutOff, NotAllowed};
 ghost use Rattle.tokens.specs.Token.{tokenAt};
 ghost use Rattle.machine.specs.declared.Went.the-variants.{Stop};
-ghost use Rattle.machine.proofs.Comments.{NoComment};
+ghost use Rattle.machine.specs.Readable.{NoComment};
 ghost use lib.ListN.{length};
 ghost use Rattle.machine.specs.Skeleton.{solid, dueBy, due, literalsFrom, bodyAt, literalAt};
 use crate::roles;

@@ -14,7 +14,7 @@ use Rattle.machine.specs.Skeleton.{solid}
 use Rattle.machine.specs.Literal.{bytesOf}
 use Rattle.machine.specs.Step.{run, begin}
 use Rattle.machine.specs.Page.{preambleEnd, pageStart}
-use Rattle.machine.proofs.Readable.{Whole}
+use Rattle.machine.specs.Readable.{Whole}
 use Rattle.machine.proofs.Legible.{Legible, legible-preamble, legible-page}
 use Rattle.names.specs.Names.{both}
 use Rattle.state.specs.declared.Registers.{Registers}

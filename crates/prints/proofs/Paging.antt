@@ -8,7 +8,7 @@ use lib.Seq.{sets, slice}
 use Rattle.table.specs.Slots.{slots}
 use Rattle.tokens.proofs.Summaries.{take-drop}
 use Rattle.machine.specs.Page.{preambleEnd, pageStart, pageEnd, resultOf, pageResult, rowBytes}
-use Rattle.machine.proofs.Readable.{Whole}
+use Rattle.machine.specs.Readable.{Whole}
 use Rattle.state.specs.declared.Registers.{Registers}
 use Rattle.state.specs.Layout.{abs}
 use Rattle.state.proofs.Parts.{length-values}

@@ -10,7 +10,7 @@ use Rattle.table.specs.Words.{wordBytes}
 use Rattle.table.proofs.Stores.{sets-append}
 use Rattle.machine.specs.Limits.{mostPages}
 use Rattle.machine.specs.Page.{Result, preambleOf, pageResult, resultAt, bytesIn, rowWords, rowBytes, rowsFrom}
-use Rattle.machine.proofs.Readable.{Whole}
+use Rattle.machine.specs.Readable.{Whole}
 use Rattle.skeleton.specs.Spans.{Placed}
 use Rattle.prints.specs.Ran.{Ready, Rowed, Holds}
 

@@ -10,7 +10,7 @@ use Rattle.machine.specs.Step.{run, begin}
 use Rattle.tokens.specs.declared.Outcome.{Outcome}
 use Rattle.machine.specs.Limits.{mostPages, scratchSize, mostCells}
 use Rattle.machine.specs.Promise.{finished, over, runAnswer, rowsLeaves, reprintAnswer, rowLeaves, sectionsLeaves}
-use Rattle.machine.proofs.Readable.{Whole}
+use Rattle.machine.specs.Readable.{Whole}
 use Rattle.skeleton.specs.Spans.{Placed}
 use Rattle.machine.specs.Page.{Result, preambleEnd, pageResult, rowBytes, sectionBytes}
 use Rattle.names.specs.Names.{both}

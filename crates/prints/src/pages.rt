@@ -2,7 +2,7 @@
 ghost use mathlib.Core.Path.{_≡_};
 ghost use Prim.Native.Nat.{_≤_};
 ghost use lib.ListN.{length};
-ghost use Rattle.machine.proofs.Readable.{Whole};
+ghost use Rattle.machine.specs.Readable.{Whole};
 ghost use Rattle.origins.specs.Bodies.{Short};
 ghost use Rattle.prints.specs.Ran.{Preambled, Paged, Ready};
 use state::Registers;

@@ -5,7 +5,7 @@ ghost use Prim.Native.Nat.{ℕ, _+_, _*_, _≤_};
 ghost use lib.ListN.{length, getD};
 ghost use lib.Seq.{slice, sets};
 ghost use Rattle.machine.specs.Page.{rowsFrom};
-ghost use Rattle.machine.proofs.Readable.{Whole};
+ghost use Rattle.machine.specs.Readable.{Whole};
 ghost use Rattle.skeleton.specs.Spans.{Placed};
 ghost use Rattle.prints.specs.Ran.{Preambled, Paged, Ready, Rowed, Holds};
 use state::Registers;

@@ -24,7 +24,8 @@ use Rattle.machine.specs.declared.Role.{Role}
 use Rattle.machine.specs.declared.Role.the-variants as role
 use Rattle.machine.specs.Skeleton.{opening, holders, barred, oneOf, roleOf, solid, follow, andThen, held, passing, dueBy, due, literalBy, literalsFrom, bodyAt, literalAt}
 use Rattle.machine.proofs.Inside.{EndsIn, token-inside, PassedIn, literal-later}
-use Rattle.machine.proofs.Comments.{NoComment, one-at, solid-is, comments-are}
+use Rattle.machine.specs.Readable.{NoComment}
+use Rattle.machine.proofs.Comments.{one-at, solid-is, comments-are}
 use Rattle.machine.proofs.TokenLocal.{judged-all}
 use Rattle.machine.proofs.Bodies.{body-later, body-ends}
 use Rattle.machine.proofs.BodyLocal.{body-more}

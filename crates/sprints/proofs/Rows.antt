@@ -24,7 +24,8 @@ use Rattle.machine.specs.Skeleton.{solid}
 use Rattle.machine.specs.Literal.{Code, bytesOf, foundBy, foundAt}
 use Rattle.machine.specs.Contexts.{settle}
 use Rattle.machine.specs.Step.{execute, step, run}
-use Rattle.machine.proofs.Comments.{NoComment, none-at, solid-is}
+use Rattle.machine.specs.Readable.{NoComment}
+use Rattle.machine.proofs.Comments.{none-at, solid-is}
 use Rattle.nesting.proofs.BodyTurns.{stands-at, number-shown, operator-shown}
 use Rattle.literals.proofs.Standing.{stands-reads}
 use Rattle.literals.proofs.Passing.{solid-inside}

@@ -15,8 +15,7 @@ use Rattle.machine.specs.Skeleton.{solid}
 use Rattle.machine.specs.Literal.{Code, bytesOf, foundAt}
 use Rattle.machine.specs.Contexts.{beneath, fault, settle}
 use Rattle.machine.specs.Step.{execute, isUnmark0, dueIn, step, run}
-use Rattle.machine.proofs.Comments.{NoComment}
-use Rattle.machine.proofs.Readable.{Readable}
+use Rattle.machine.specs.Readable.{NoComment, Readable}
 use Rattle.passing.specs.Known.{Reads}
 use Rattle.literals.specs.Dues.{LiteralThere}
 use Rattle.sprints.specs.declared.Stride.{Stride}
@@ -35,6 +34,13 @@ abbrev pub LiteralsLeft : List ℕ → ℕ → ℕ → Type 0
 LiteralsLeft b at end = (at < end) × Readable b (solid b at) end
 
 -- ---- one literal
+
+-- heights that the stack cannot have: nothing was done, and nothing is said of the literal; nothing was done, since it fails
+abbrev pub undoneHeight : ℕ
+undoneHeight = 129
+
+abbrev pub failedHeight : ℕ
+failedHeight = 130
 
 -- where marks can stand: so many entries from the bottom on
 abbrev pub marked : List ℕ → ℕ → ℕ
@@ -76,13 +82,13 @@ unfoldable pub onto : ℕ → ℕ → Option State → Option State
 onto p n none = none
 onto p n (some s) = some (ahead p n s)
 
--- what means f done within a step: it leaves the stack h high, whatever the place and the steps; 130 says that it fails, 129 nothing
+-- what means f done within a step: it leaves the stack h high, whatever the place and the steps, or tells that it fails
 pub record Flat (top : ℕ) (f : State → Option State) (w : List ℕ) (r : Registers) (w′ : List ℕ) (h : ℕ) : Type 0 where
   pub made : h ≤ mostEntries → Tried f w r w′ (raised r h)
   pub stays : Stays top w r w′ h
   pub back : mostEntries < h → w′ ≡ w
   pub free : h ≤ mostEntries → (p n : ℕ) → f (ahead p n (abs w r)) ≡ onto p n (f (abs w r))
-  pub fails : h ≡ 130 → (p n : ℕ) → f (ahead p n (abs w r)) ≡ none
+  pub fails : h ≡ failedHeight → (p n : ℕ) → f (ahead p n (abs w r)) ≡ none
 
 -- the registers after a step that leaves the stack so high
 abbrev pub stepped : Registers → ℕ → Registers
@@ -112,16 +118,16 @@ pub record Attempted (code : Code) (w : List ℕ) (r : Registers) (w′ : List �
 
 -- ---- several
 
--- the literal at `at` of the bytes b done, but for its place and its step, or told to fail (130); of one that was left undone (129) nothing is said.
+-- the literal at `at` of the bytes b done, but for its place and its step, or told to fail; of one that was left undone nothing is said.
 -- `number`: the operator there, unless it is 0
 pub record Strides (top : ℕ) (b : List ℕ) (at : ℕ) (w : List ℕ) (r : Registers) (w′ : List ℕ) (t : Stride) : Type 0 where
   pub stays : Stays top w r w′ (t .height)
   pub back : mostEntries < t .height → w′ ≡ w
-  pub token : (t .height ≡ 129 → ⊥) → NoComment (tokenAt b at)
-  pub next : (t .height ≡ 129 → ⊥) → foundAt b at .next ≡ solid b (t .next)
-  pub inside : (t .height ≡ 129 → ⊥) → t .next ≤ length b
+  pub token : (t .height ≡ undoneHeight → ⊥) → NoComment (tokenAt b at)
+  pub next : (t .height ≡ undoneHeight → ⊥) → foundAt b at .next ≡ solid b (t .next)
+  pub inside : (t .height ≡ undoneHeight → ⊥) → t .next ≤ length b
   pub told : (t .number ≡ 0 → ⊥) → tokenAt b at ≡ read.Operator (t .number) (t .next)
-  pub does : (t .height ≡ 129 → ⊥) → (code : Code) → Flat top (execute code (foundAt b at .literal)) w r w′ (t .height)
+  pub does : (t .height ≡ undoneHeight → ⊥) → (code : Code) → Flat top (execute code (foundAt b at .literal)) w r w′ (t .height)
 
 -- the registers r with another height, and no more
 abbrev pub lifted : Registers → ℕ → Registers

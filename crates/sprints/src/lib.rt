@@ -20,7 +20,7 @@ ghost use Rattle.tokens.specs.declared.Read.the-variants as read;
 ghost use Rattle.tokens.specs.Token.{tokenAt};
 ghost use Rattle.state.specs.Layout.{Busy};
 ghost use Rattle.literals.specs.Dues.{LiteralThere};
-ghost use Rattle.sprints.specs.Swift.{TokenThere, LiteralsLeft, marked, origin, ending, quiet, Flat, Strides, Rowed};
+ghost use Rattle.sprints.specs.Swift.{TokenThere, LiteralsLeft, undoneHeight, failedHeight, marked, origin, ending, quiet, Flat, Strides, Rowed};
 use literals::reading::NAME;
 use literals::reading::TEXT;
 use machine::Effect;
@@ -64,7 +64,7 @@ const FAILED: usize = 130;
 
 // The height after an operation.
 fn height_of(p: Registers) -> usize
-    ensures { λ h. ⌜ (p .ok ≡ true → h ≡ p .height) × (p .ok ≡ false → h ≡ 130) ⌝ }
+    ensures { λ h. ⌜ (p .ok ≡ true → h ≡ p .height) × (p .ok ≡ false → h ≡ failedHeight) ⌝ }
 {
     if p.ok {
         return p.height;
@@ -275,7 +275,7 @@ fn look(
 // An operator. No mark stands at the height `clear` or above.
 fn operate(w: &mut [u8], r: Registers, n: u16, clear: usize) -> usize
     requires { ⌜ Busy (now w) r × (r .skipping ≡ false) × (r .ok ≡ false) × (marked (now w) (r .height) ≤ clear) ⌝ }
-    ensures { λ h. ⌜ ((code : Code) → Flat clear (execute code (Plain n)) (now (w .entry)) r (now (w .exit)) h × ((h ≡ 129 → ⊥) → roleOf n ≡ role.Plain)) ⌝ }
+    ensures { λ h. ⌜ ((code : Code) → Flat clear (execute code (Plain n)) (now (w .entry)) r (now (w .exit)) h × ((h ≡ undoneHeight → ⊥) → roleOf n ≡ role.Plain)) ⌝ }
 {
     match n {
         1 => r.height,
@@ -312,7 +312,7 @@ fn operate(w: &mut [u8], r: Registers, n: u16, clear: usize) -> usize
 // ---- several in a row
 
 fn undone(at: usize) -> Stride
-    ensures { λ t. ⌜ t ≡ record { height = 129; next = at; number = 0 } ⌝ }
+    ensures { λ t. ⌜ t ≡ record { height = undoneHeight; next = at; number = 0 } ⌝ }
 {
     Stride {
         height: UNDONE,

@@ -7,8 +7,8 @@ use native.Mathlib.Omega.{arith}
 use lib.ListN.{length, getD, set, take, drop, List·getD-map}
 use lib.Seq.{take-at, drop-at}
 use Rattle.table.specs.declared.Slot.{Slot}
-use Rattle.table.specs.Slots.{nil, asc, desc, copied}
-use Rattle.table.proofs.Moves.{Same, same-set, Apart, desc-cong, stack-cut, stack-take, stack-drop, part-drop, rolled, roll-stack, length-desc, asc-store, getD-asc, getD-desc, asc-moved, desc-moved, asc-cut}
+use Rattle.table.specs.Slots.{nil, asc, desc, copied, rolled}
+use Rattle.table.proofs.Moves.{Same, same-set, Apart, desc-cong, stack-cut, stack-take, stack-drop, part-drop, roll-stack, length-desc, asc-store, getD-asc, getD-desc, asc-moved, desc-moved, asc-cut}
 use Rattle.machine.specs.declared.Value.{Value}
 use Rattle.machine.specs.State.{Entry, val, mark, running}
 use Rattle.machine.specs.Contexts.{above, beneath, over, from}

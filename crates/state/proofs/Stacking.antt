@@ -10,8 +10,8 @@ use borrow.Author.Tests.{eq-eqb, ne-eqb, le-leb, lt-leb, leb-true}
 use lib.Dec.{leb}
 use lib.ListN.{length, getD, set, take, drop, length-set, length-append}
 use Rattle.table.specs.declared.Slot.{Slot}
-use Rattle.table.specs.Slots.{nil, mk, slots, desc, copied}
-use Rattle.table.proofs.Moves.{Same, same-set, same-copied, same-then, length-copied, rolled}
+use Rattle.table.specs.Slots.{nil, mk, slots, desc, copied, rolled}
+use Rattle.table.proofs.Moves.{Same, same-set, same-copied, same-then, length-copied}
 use Rattle.machine.specs.declared.Value.{Value}
 use Rattle.machine.specs.State.{Entry, val, mark, State, running}
 use Rattle.machine.specs.Contexts.{above, beneath, over}

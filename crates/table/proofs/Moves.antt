@@ -10,7 +10,7 @@ use native.Mathlib.Decide.{ℕ-discrete}
 use lib.ListN.{length, getD, set, take, drop, length-set, replicate}
 use lib.Seq.{getD-set-same, getD-set-other, take-at, drop-at}
 use Rattle.table.specs.declared.Slot.{Slot}
-use Rattle.table.specs.Slots.{wordsOf, slotsOf, slots, nil, asc, desc, copied, zeroed}
+use Rattle.table.specs.Slots.{wordsOf, slotsOf, slots, nil, asc, desc, copied, rolled, zeroed}
 
 -- ---- one congruence for each reader: all else is about single slots
 
@@ -184,9 +184,7 @@ stack-take m n sp h = rw (sub-add-cancel h, zero-add) at (desc-take m 0 (sp - n)
 pub stack-drop : (m : List Slot) (n sp : ℕ) → n ≤ sp → drop n (desc m 0 sp) ≡ desc m 0 (sp - n)
 stack-drop m n sp h = rw (sub-add-cancel h) at (desc-drop m 0 (sp - n) n)
 
--- ---- a roll of the top n, by way of the part at t: all n there, then the top j under the rest
-abbrev pub rolled : List Slot → ℕ → ℕ → ℕ → ℕ → List Slot
-rolled m a n j t = copied (copied (copied m a t n) (t + (n - j)) a j) t (a + j) (n - j)
+-- ---- a roll of the top n
 
 pub roll-stack : (m : List Slot) (a n j t : ℕ) → j ≤ n → a + n ≤ t → t + n ≤ length m → desc (rolled m a n j t) 0 (a + n) ≡ desc m a (n - j) ++ (desc m (a + (n - j)) j ++ desc m 0 a)
 roll-stack m a n j t h q f =

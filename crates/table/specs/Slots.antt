@@ -1,6 +1,6 @@
 -- A table of bytes as a list of slots of five words, from the front. Bytes after the last whole slot are no part of it. In order: words;
 -- slots; parts of the list; moves. Assumes nothing.
-use Prim.Native.Nat.{ℕ, zero, suc, _+_}
+use Prim.Native.Nat.{ℕ, zero, suc, _+_, _-_}
 use mathlib.Core.List.{List, [], _∷_, _++_}
 use lib.ListN.{getD, set, replicate, drop}
 use Rattle.table.specs.declared.Slot.{Slot}
@@ -54,6 +54,10 @@ desc m b (suc n) = getD m (b + n) nil ∷ desc m b n
 unfoldable pub copied : List Slot → ℕ → ℕ → ℕ → List Slot
 copied m s d zero = m
 copied m s d (suc n) = set (copied m s d n) (d + n) (getD (copied m s d n) (s + n) nil)
+
+-- the top n of what ends at a + n rolled, by way of the part at t: all n there, then the top j under the rest
+abbrev pub rolled : List Slot → ℕ → ℕ → ℕ → ℕ → List Slot
+rolled m a n j t = copied (copied (copied m a t n) (t + (n - j)) a j) t (a + j) (n - j)
 
 -- n zeros in front
 unfoldable pub zeroed : ℕ → List ℕ → List ℕ
