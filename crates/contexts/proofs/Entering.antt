@@ -3,7 +3,6 @@ use mathlib.Core.Path.{_≡_, refl, _∙_}
 use mathlib.Core.Bool.{Bool, true, false}
 use mathlib.Core.Logic.{inl, inr}
 use mathlib.Core.List.{List, _∷_}
-use mathlib.Core.Option.{Option}
 use Prim.Native.Nat.{ℕ, suc, _+_, _-_, _%_, _≤_, _<_}
 use native.Mathlib.Numerals.{add-one}
 use native.Mathlib.Omega.{arith}
@@ -14,38 +13,37 @@ use lib.Seq.{getD-set-same, set-set, set-getD}
 use Rattle.table.specs.declared.Slot.{Slot}
 use Rattle.table.specs.Slots.{nil, mk, slots, desc}
 use Rattle.table.proofs.Moves.{Same, same-set}
-use Rattle.machine.specs.State.{Context, State, running}
+use Rattle.machine.specs.State.{Context, running}
 use Rattle.machine.specs.Contexts.{atEnd, leaveAt, leave, settle}
 use Rattle.machine.specs.Engine.{fits, limited, withContexts, enter}
 use Rattle.machine.specs.Step.{begunIn, begun}
 use Rattle.state.specs.declared.Registers.{Registers}
 use Rattle.state.specs.Layout.{stackOf, valuesAt, frameAt, frameOf, contextIn, contextAt, contextsOf, aside, abs, lentBy, lent, Good, Busy, Tried, goesTo, Begun}
-use Rattle.state.specs.Operations.{entered, inline, call, opening, Opened}
+use Rattle.state.specs.Operations.{entered, enterOn, inline, call, opening, Opened}
 use Rattle.state.proofs.Parts.{wide, room-of, stack-same, values-same, Lies, lent-lies, lies-lent, lies-up, frame-same, lent-same, lent-none, lent-top, lent-more, lent-renew, contexts-same, aside-same, length-stack, length-contexts, contexts-at}
 use Rattle.state.proofs.Ending.{state-path}
 use Rattle.state.proofs.Cutting.{values-part, contexts-renew}
-use Rattle.state.proofs.Trying.{trying, failed, tried-no, tried-yes, fits-abs}
+use Rattle.state.proofs.Trying.{trying, failed, tried-no, tried-yes, tried-as, fits-abs}
 
--- ---- a body entered on a frame that stands, with the word o
+-- ---- a body entered on the frame that a word says
 
-module _ {w : List ℕ} {r : Registers} (f : State → Option State) (origin at end o : ℕ) (g : Busy w r)
-    (meant : f (abs w r) ≡ enter (entered origin at end (leb 4096 o) (valuesAt (slots w) (128 + o % 4096) 50) (abs w r)) (abs w r)) where
-  enter-full : {r′ : Registers} → 12 ≤ r .depth → r′ ≡ failed r → Tried f w r w r′
-  unfolding enter limited fits
-  enter-full {r′} h q = tried-no g (meant ∙ (rw (length-stack, le-leb (r .height) 128 (g .stack-fits), length-contexts, lt-leb (suc (r .depth)) 12 (omega arith)))) q
+module _ {w : List ℕ} {r : Registers} (origin at end word : ℕ) (g : Busy w r) where
+  pub enter-full : {r′ : Registers} → 12 ≤ r .depth → r′ ≡ failed r → Tried (enterOn (slots w) origin at end word) w r w r′
+  unfolding enterOn enter limited fits
+  enter-full {r′} h q = tried-no g (rw (length-stack, le-leb (r .height) 128 (g .stack-fits), length-contexts, lt-leb (suc (r .depth)) 12 (omega arith))) q
 
-  module _ (w′ : List ℕ) (h : r .depth < 12) (takes : lentBy (r .depth) (o % 4096) ≤ r .used) (p : slots w′ ≡ set (slots w) (1752 + r .depth) (mk (r .steps) origin at end o)) where
+  module _ (takes : r .depth < 12 → lentBy (r .depth) (word % 4096) ≤ r .used) (h : r .depth < 12) where
     new : Context
-    new = entered origin at end (leb 4096 o) (valuesAt (slots w) (128 + o % 4096) 50) (abs w r)
+    new = entered origin at end (leb 4096 word) (valuesAt (slots w) (128 + word % 4096) 50) (abs w r)
 
     abbrev put : List Slot
-    put = set (slots w) (1752 + r .depth) (mk (r .steps) origin at end o)
+    put = set (slots w) (1752 + r .depth) (mk (r .steps) origin at end word)
 
-    there : getD put (1752 + r .depth) nil ≡ mk (r .steps) origin at end o
-    there = getD-set-same (slots w) (1752 + r .depth) (mk (r .steps) origin at end o) nil (omega (arith, wide w (g .room)))
+    there : getD put (1752 + r .depth) nil ≡ mk (r .steps) origin at end word
+    there = getD-set-same (slots w) (1752 + r .depth) (mk (r .steps) origin at end word) nil (omega (arith, wide w (g .room)))
 
     under : (a b : ℕ) → b ≤ 1752 + r .depth → Same put (slots w) a b
-    under a b l = same-set (slots w) (1752 + r .depth) (mk (r .steps) origin at end o) a b (inr l)
+    under a b l = same-set (slots w) (1752 + r .depth) (mk (r .steps) origin at end word) a b (inr l)
 
     contexts-put : contextsOf put (suc (r .depth)) ≡ new ∷ contextsOf (slots w) (r .depth)
     unfolding contextsOf contextAt contextIn new
@@ -53,25 +51,27 @@ module _ {w : List ℕ} {r : Registers} (f : State → Option State) (origin at 
         let d = r .depth in
         rw (
           there,
-          frame-same put (slots w) d (o % 4096) (r .used) takes (g .cells-fit) (under 128 _ (omega arith)) (under 728 _ (omega (arith, g .cells-fit))),
+          frame-same put (slots w) d (word % 4096) (r .used) (takes h) (g .cells-fit) (under 128 _ (omega arith)) (under 728 _ (omega (arith, g .cells-fit))),
           contexts-same put (slots w) d (r .used) (omega (arith, lent-same put (slots w) d (under 1752 _ (omega arith)))) (g .cells-fit) (under 128 _ (omega arith)) (under 728 _ (omega (arith, g .cells-fit))) (under 1752 _ (omega arith)),
         )
 
-    enter-made : {r′ : Registers} → r′ ≡ trying r (r .height) (r .depth + 1) (r .used) true → Tried f w r w′ r′
-    unfolding enter new
-    enter-made {r′} q =
+    pub enter-made : {w′ : List ℕ} {r′ : Registers} (id : ℕ) → id ≡ r .steps → slots w′ ≡ set (slots w) (1752 + r .depth) (mk id origin at end word) → r′ ≡ trying r (r .height) (r .depth + 1) (r .used) true
+        → Tried (enterOn (slots w) origin at end word) w r w′ r′
+    unfolding enterOn enter new
+    enter-made {w′} {r′} id ei pi q =
         let m = slots w in
         let d = r .depth in
+        let p : slots w′ ≡ put = rw ei at pi in
         let big : 2400 ≤ length put = rw length-set (wide w (g .room)) in
         let rm = room-of w′ put p big in
         let r₁ = trying r (r .height) (d + 1) (r .used) true in
         let one : d + 1 ≡ suc d = add-one d in
-        let fr : lent (slots w′) (d + 1) ≤ r .used = rw (p, one) (lent-more m put d (r .used) (g .frames-fit) (under 1752 _ (omega arith)) (rw there takes)) in
+        let fr : lent (slots w′) (d + 1) ≤ r .used = rw (p, one) (lent-more m put d (r .used) (g .frames-fit) (under 1752 _ (omega arith)) (rw there (takes h))) in
         let e : abs w′ r₁ ≡ withContexts (new ∷ contextsOf m d) (abs w r) =
         state-path (rw p (stack-same put m (r .height) (under 0 _ (omega arith)))) (rw (p, one) contexts-put) (rw p (values-same put m 128 50 (under 128 _ (omega arith))))
         (rw p (values-same put m 728 (r .used) (under 728 _ (omega (arith, g .cells-fit))))) in
-        let kp : aside w′ ≡ aside w = aside-same w′ w (rw p (same-set m (1752 + d) (mk (r .steps) origin at end o) 1764 1814 (inl (omega arith)))) in
-        rw q (tried-yes (omega arith) kp refl refl (meant ∙ (rw (← e) (fits-abs w′ r₁ (g .stack-fits) (omega arith) (g .cells-fit)))))
+        let kp : aside w′ ≡ aside w = aside-same w′ w (rw p (same-set m (1752 + d) (mk (r .steps) origin at end word) 1764 1814 (inl (omega arith)))) in
+        rw q (tried-yes (omega arith) kp refl refl (rw (← e) (fits-abs w′ r₁ (g .stack-fits) (omega arith) (g .cells-fit))))
 
 -- ---- where the running body goes on
 
@@ -81,42 +81,28 @@ running-at w d c h e = (rw (contexts-at (slots w) d c h e), rw (contexts-at (slo
 
 -- ---- on the running frame
 
-module _ {w : List ℕ} {r : Registers} (at end : ℕ) (owes : Bool) (g : Busy w r) where
-  inline-is : (c : Slot) (o : ℕ) → c ≡ getD (slots w) (1752 + (r .depth - 1)) nil → (o % 4096 ≡ c .d % 4096) × (leb 4096 o ≡ owes)
-      → inline at end owes (abs w r) ≡ enter (entered (c .a) at end (leb 4096 o) (valuesAt (slots w) (128 + o % 4096) 50) (abs w r)) (abs w r)
-  unfolding inline running contextIn
-  inline-is c o got (e, f) = rw (contexts-at (slots w) (r .depth) c (g .runs) got, e, f)
-
-  pub inline-full : {r′ : Registers} → 12 ≤ r .depth → r′ ≡ failed r → Tried (inline at end owes) w r w r′
-  unfolding inline enter limited fits
-  inline-full {r′} h q = tried-no g (rw (length-stack, le-leb (r .height) 128 (g .stack-fits), length-contexts, lt-leb (suc (r .depth)) 12 (omega arith))) q
-
-  pub inline-yes : {w′ : List ℕ} {r′ : Registers} (c : Slot) (o : ℕ) → r .depth < 12 → c ≡ getD (slots w) (1752 + (r .depth - 1)) nil → (o % 4096 ≡ c .d % 4096) × (leb 4096 o ≡ owes)
-      → slots w′ ≡ set (slots w) (1752 + r .depth) (mk (r .steps) (c .a) at end o) → r′ ≡ trying r (r .height) (r .depth + 1) (r .used) true → Tried (inline at end owes) w r w′ r′
-  inline-yes {w′} {r′} c o h got (e, f) p q =
+module _ {w : List ℕ} {r : Registers} (at end word : ℕ) (owes : Bool) (c : Slot) (g : Busy w r) (got : c ≡ getD (slots w) (1752 + (r .depth - 1)) nil) (told : (word % 4096 ≡ c .d % 4096) × (leb 4096 word ≡ owes)) where
+  pub inline-takes : r .depth < 12 → lentBy (r .depth) (word % 4096) ≤ r .used
+  inline-takes _ =
       let d = r .depth in
+      let k = c .d % 4096 in
       let one : suc (d - 1) ≡ d = omega (arith, g .runs) in
-      let lies : Lies (d - 1) (c .d % 4096) (r .used) = lent-lies (d - 1) (c .d % 4096) (r .used) (rw got (lent-top (slots w) d (r .used) (g .runs) (g .frames-fit))) (g .cells-fit) in
-      let takes : lentBy d (o % 4096) ≤ r .used = rw e (lies-lent d (c .d % 4096) (r .used) (rw one at (lies-up (d - 1) (c .d % 4096) (r .used) lies))) in
-      enter-made (inline at end owes) (c .a) at end o g (inline-is c o got (e, f)) w′ h takes p q
+      let lies : Lies (d - 1) k (r .used) = lent-lies (d - 1) k (r .used) (rw got (lent-top (slots w) d (r .used) (g .runs) (g .frames-fit))) (g .cells-fit) in
+      rw (told .0) (lies-lent d k (r .used) (rw one at (lies-up (d - 1) k (r .used) lies)))
+
+  pub inline-on : {w′ : List ℕ} {r′ : Registers} → Tried (enterOn (slots w) (c .a) at end word) w r w′ r′ → Tried (inline at end owes) w r w′ r′
+  unfolding inline enterOn running contextIn
+  inline-on t = tried-as (rw (contexts-at (slots w) (r .depth) c (g .runs) got, told .0, told .1)) t
 
 -- ---- on a kept frame
 
-module _ {w : List ℕ} {r : Registers} (origin at end first : ℕ) (g : Busy w r) (kept : first + 50 ≤ r .used) where
-  call-is : (o : ℕ) → (o % 4096 ≡ 600 + first) × (leb 4096 o ≡ false) → call origin at end first (abs w r) ≡ enter (entered origin at end (leb 4096 o) (valuesAt (slots w) (128 + o % 4096) 50) (abs w r)) (abs w r)
-  unfolding call
-  call-is o (e, f) = let z : 728 + first ≡ 128 + (600 + first) = omega arith in rw (values-part (slots w) 728 first 50 (r .used) kept, e, f, z)
+module _ {w : List ℕ} {r : Registers} (origin at end first k word : ℕ) (g : Busy w r) (kept : first + 50 ≤ r .used) (ek : k ≡ 600 + first) (told : (word % 4096 ≡ k) × (leb 4096 word ≡ false)) where
+  pub call-takes : r .depth < 12 → lentBy (r .depth) (word % 4096) ≤ r .used
+  call-takes _ = rw (told .0, ek) (lies-lent (r .depth) (600 + first) (r .used) (inr (inr (omega (arith, g .runs), (omega arith, omega arith)))))
 
-  pub call-full : {r′ : Registers} → 12 ≤ r .depth → r′ ≡ failed r → Tried (call origin at end first) w r w r′
-  unfolding call enter limited fits
-  call-full {r′} h q = tried-no g (rw (length-stack, le-leb (r .height) 128 (g .stack-fits), length-contexts, lt-leb (suc (r .depth)) 12 (omega arith))) q
-
-  pub call-yes : {w′ : List ℕ} {r′ : Registers} (k o : ℕ) → r .depth < 12 → k ≡ 600 + first → (o % 4096 ≡ k) × (leb 4096 o ≡ false)
-      → slots w′ ≡ set (slots w) (1752 + r .depth) (mk (r .steps) origin at end o) → r′ ≡ trying r (r .height) (r .depth + 1) (r .used) true → Tried (call origin at end first) w r w′ r′
-  call-yes {w′} {r′} k o h z (e, f) p q =
-      let en : o % 4096 ≡ 600 + first = e ∙ z in
-      let takes : lentBy (r .depth) (o % 4096) ≤ r .used = rw en (lies-lent (r .depth) (600 + first) (r .used) (inr (inr (omega (arith, g .runs), (omega arith, omega arith))))) in
-      enter-made (call origin at end first) origin at end o g (call-is o (en, f)) w′ h takes p q
+  pub call-on : {w′ : List ℕ} {r′ : Registers} → Tried (enterOn (slots w) origin at end word) w r w′ r′ → Tried (call origin at end first) w r w′ r′
+  unfolding call enterOn
+  call-on t = let z : 728 + first ≡ 128 + (600 + first) = omega arith in tried-as (rw (values-part (slots w) 728 first 50 (r .used) kept, told .0, told .1, ek, z)) t
 
 -- ---- a body of the engine's opened
 

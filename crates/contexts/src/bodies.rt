@@ -1,11 +1,11 @@
 // A step begun, bodies entered, a body of the engine's opened.
 ghost use mathlib.Core.Path.{_≡_};
-ghost use Prim.Native.Nat.{_+_, _<_, _≤_};
-ghost use lib.ListN.{length, set};
-ghost use Rattle.table.specs.Slots.{slots, mk};
+ghost use Prim.Native.Nat.{_+_, _%_, _<_, _≤_};
+ghost use lib.ListN.{length};
+ghost use Rattle.table.specs.Slots.{slots};
 ghost use Rattle.machine.specs.State.{running};
-ghost use Rattle.state.specs.Layout.{contextsOf, Good, Busy, Tried, goesTo, Begun};
-ghost use Rattle.state.specs.Operations.{inline, call, Opened};
+ghost use Rattle.state.specs.Layout.{contextsOf, lentBy, Good, Busy, Tried, goesTo, Begun};
+ghost use Rattle.state.specs.Operations.{enterOn, inline, call, Opened};
 use crate::frames;
 use state::Place;
 use state::Registers;
@@ -53,23 +53,30 @@ pub fn running(w: &[u8], depth: usize) -> Place
     }
 }
 
-// The context d, with its last word.
-fn put_context(w: &mut [u8], id: usize, d: usize, origin: u32, at: u32, end: u32, word: u32)
-    requires { ⌜ (id < 4294967296) × (d < 12) × (48000 ≤ length (now w)) ⌝ }
-    ensures { λ _. ⌜ slots (now (w .exit)) ≡ set (slots (now (w .entry))) (1752 + d) (mk id origin at end word) ⌝ }
+// A body entered from `at` to `end`, with the last word of its context, which says where its frame lies.
+fn enter_on(w: &mut [u8], r: Registers, origin: u32, at: u32, end: u32, word: u32) -> Registers
+    requires { ⌜ Busy (now w) r × (r .depth < 12 → lentBy (r .depth) (word % 4096) ≤ r .used) ⌝ }
+    ensures { λ q. ⌜ Tried (enterOn (slots (now (w .entry))) origin at end word) (now (w .entry)) r (now (w .exit)) q ⌝ }
 {
-    let i = table::words::word(id);
+    let d = r.depth;
+    if d >= 12 {
+        return state::stack::failed(r);
+    }
     table::slots::put(
         w,
         1752 + d,
         Slot {
-            kind: i,
+            kind: table::words::word(r.steps),
             a: origin,
             b: at,
             c: end,
             d: word,
         },
     );
+    let mut q = r;
+    q.depth = d + 1;
+    q.ok = true;
+    q
 }
 
 // A body entered on the running frame.
@@ -77,17 +84,8 @@ pub fn inline(w: &mut [u8], r: Registers, at: u32, end: u32, owes: bool) -> Regi
     requires { ⌜ Busy (now w) r ⌝ }
     ensures { λ q. ⌜ Tried (inline at end owes) (now (w .entry)) r (now (w .exit)) q ⌝ }
 {
-    let d = r.depth;
-    if d >= 12 {
-        return state::stack::failed(r);
-    }
-    let c = table::slots::get(w, 1752 + (d - 1));
-    let word = frames::lying(c.d % 4096, owes);
-    put_context(w, r.steps, d, c.a, at, end, word);
-    let mut q = r;
-    q.depth = d + 1;
-    q.ok = true;
-    q
+    let c = table::slots::get(w, 1752 + (r.depth - 1));
+    enter_on(w, r, c.a, at, end, frames::last_word(c.d % 4096, owes))
 }
 
 // A body entered on the frame that stands in the cells from `first` on.
@@ -95,16 +93,8 @@ pub fn call(w: &mut [u8], r: Registers, origin: u32, at: u32, end: u32, first: u
     requires { ⌜ Busy (now w) r × (first + 50 ≤ r .used) ⌝ }
     ensures { λ q. ⌜ Tried (call origin at end first) (now (w .entry)) r (now (w .exit)) q ⌝ }
 {
-    let d = r.depth;
-    if d >= 12 {
-        return state::stack::failed(r);
-    }
-    let word = frames::lying(table::words::word(600 + first), false);
-    put_context(w, r.steps, d, origin, at, end, word);
-    let mut q = r;
-    q.depth = d + 1;
-    q.ok = true;
-    q
+    let word = frames::last_word(table::words::word(600 + first), false);
+    enter_on(w, r, origin, at, end, word)
 }
 
 // A body of the engine's, from `at` to `end`, with the frame that lies in its place and so many cells.

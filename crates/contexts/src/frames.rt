@@ -25,7 +25,7 @@ pub fn fetch(w: &mut [u8], r: Registers, j: usize) -> Registers
 }
 
 // The last word of a context: its frame lies so many slots from 128 on, and whether it owes.
-pub fn lying(frame: u32, owes: bool) -> u32
+pub fn last_word(frame: u32, owes: bool) -> u32
     requires { ⌜ frame < 4096 ⌝ }
     ensures { λ r. ⌜ (r % 4096 ≡ frame) × (leb 4096 r ≡ owes) ⌝ }
 {
@@ -48,7 +48,7 @@ fn own(w: &mut [u8], r: Registers)
         return;
     }
     table::slots::copy_long(w, 128 + from, 128 + to, 50);
-    let word = lying(table::words::word(to), c.d >= 4096);
+    let word = last_word(table::words::word(to), c.d >= 4096);
     table::slots::put(
         w,
         1752 + (d - 1),

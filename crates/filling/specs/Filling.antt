@@ -9,7 +9,7 @@ use lib.Seq.{sets}
 use Rattle.tokens.specs.declared.Read.{Read}
 use Rattle.tokens.specs.declared.Read.the-variants.{Number, Identifier, String, Operator, Comment, Unread}
 use Rattle.tokens.specs.Text.{lowered}
-use Rattle.tokens.specs.Joined.{whole, joinedAt}
+use Rattle.tokens.specs.Joined.{joinedAt}
 use Rattle.tokens.specs.Token.{tokenAt}
 use Rattle.points.specs.Point.{nextOf}
 use Rattle.lists.specs.declared.Place.{Place}

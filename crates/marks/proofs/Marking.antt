@@ -3,7 +3,7 @@ use mathlib.Core.Path.{_≡_, refl, ap, ap₂, sym, _∙_}
 use mathlib.Core.Bool.{Bool, true, false, _&&_}
 use mathlib.Core.Logic.{inl, inr}
 use mathlib.Core.List.{List, [], _∷_, _++_}
-use mathlib.Core.Option.{Option, none, some}
+use mathlib.Core.Option.{Option, none}
 use Prim.Native.Nat.{ℕ, zero, suc, _+_, _-_, _≤_, _<_}
 use native.Mathlib.Decide.{ℕ-discrete}
 use native.Mathlib.Omega.{arith}
@@ -26,7 +26,7 @@ use lib.ListN.{drop-of-length-le}
 use Rattle.state.specs.Operations.{markPut}
 use Rattle.state.proofs.Parts.{wide, room-of, stack-same, stack-at, stack-more, contexts-at, length-stack}
 use Rattle.state.proofs.Cutting.{over-take, over-drop, over-all, beneath-drop, entriesAt, entries-same, length-entries, stack-taken, stack-dropped, stack-joined, entries-moved}
-use Rattle.state.proofs.Trying.{trying, failed, tried-no, tried-yes, tried-as, aside-above, stack-only, fits-stack, full-stack, lent-above}
+use Rattle.state.proofs.Trying.{trying, failed, tried-no, tried-as, full-stack, stack-made}
 use Rattle.state.proofs.Stacking.{above-few, enough, few}
 
 -- ---- a mark put
@@ -104,8 +104,7 @@ module _ {w : List ℕ} {r : Registers} (n : ℕ) (b : Bool) (g : Busy w r) (eb 
           let sm : Same (slots w′) m 128 1814 = rw p (mark-same m a n (c .kind) (omega arith)) in
           let e : r .height + 1 ≡ (a + 1) + n = omega arith in
           let st : stackOf (slots w′) (r .height + 1) ≡ marked (c .kind) = rw (p, e) (mark-stack m a n (c .kind) (omega arith) room) in
-          rw q (tried-yes (omega (arith, lent-above w w′ (r .depth) (g .depth-fits) sm)) (aside-above w w′ sm) refl refl
-          (place-is ∙ fits-stack w r (marked (c .kind)) g (omega (arith, marked-long (c .kind))) ∙ ap some (sym (stack-only w w′ r (r .height + 1) (marked (c .kind)) g sm st))))
+          stack-made (r .height + 1) (marked (c .kind)) g rm (omega arith) sm st place-is q
 
     pub place-full : {r′ : Registers} → 128 ≤ r .height → r′ ≡ failed r → Tried (place n) w r w r′
     place-full {r′} f q =
@@ -120,11 +119,8 @@ module _ {w : List ℕ} {r : Registers} (g : Busy w r) where
   pub bare-full : {r′ : Registers} → 128 ≤ r .height → r′ ≡ failed r → Tried (place 0) w r w r′
   bare-full f q = place-full 0 true g none-enough refl f q
 
-  pub bare-yes : {w′ : List ℕ} {r′ : Registers} (c : Slot) → c ≡ getD (slots w) (1752 + (r .depth - 1)) nil → r .height < 128 → slots w′ ≡ set (slots w) (r .height) (mk 5 (c .kind) 0 0 0) → r′ ≡ trying r (r .height + 1) (r .depth) (r .used) true → Tried (place 0) w r w′ r′
-  unfolding markPut copied
-  bare-yes c got f p q =
-      let z : r .height - 0 ≡ r .height = omega arith in
-      place-yes 0 true g none-enough refl c got f (rw z p) q
+  pub bare-yes : {w′ : List ℕ} {r′ : Registers} (c : Slot) → c ≡ getD (slots w) (1752 + (r .depth - 1)) nil → r .height < 128 → slots w′ ≡ markPut (slots w) (r .height) 0 (c .kind) → r′ ≡ trying r (r .height + 1) (r .depth) (r .used) true → Tried (place 0) w r w′ r′
+  bare-yes c got f p q = let z : r .height - 0 ≡ r .height = omega arith in place-yes 0 true g none-enough refl c got f (rw z p) q
 
 -- ---- UNMARK
 
@@ -217,11 +213,8 @@ module _ {w : List ℕ} {r : Registers} (n : ℕ) (g : Busy w r) where
             let st : stackOf m′ (h - 1) ≡ l =
             rw e (stack-joined m′ a n ∙
             ap₂ _++_ (entries-moved m (h - n) a n (omega arith) (inr (omega arith))) (stack-same m′ m a (same-copied m (h - n) a n 0 a (inr (omega arith))))) in
-            let len : length l ≤ 128 = omega (arith, ap length st, length-stack m′ (h - 1)) in
             let sm : Same (slots w′) m 128 1814 = rw p (same-copied m (h - n) a n 128 1814 (inl (omega arith))) in
-            rw q (tried-yes (omega (arith, lent-above w w′ (r .depth) (g .depth-fits) sm)) (aside-above w w′ sm) refl refl
-            ((rw (marked-at .1, running-id w r c g has, eq-eqb (v .a) (c .kind) own, eq-eqb n _ all, whole) (fits-stack w r l g len)) ∙
-            ap some (sym (stack-only w w′ r (h - 1) l g sm (rw p st)))))
+            stack-made (h - 1) l g rm (omega arith) sm (rw p st) (rw (marked-at .1, running-id w r c g has, eq-eqb (v .a) (c .kind) own, eq-eqb n _ all, whole) refl) q
 
 -- ---- COUNT
 

@@ -80,19 +80,8 @@ pub fn place_bare(w: &mut [u8], r: Registers) -> Registers
     if height >= 128 {
         return state::stack::failed(r);
     }
-    let d = r.depth;
-    let c = table::slots::get(w, 1752 + (d - 1));
-    table::slots::put(
-        w,
-        height,
-        Slot {
-            kind: 5,
-            a: c.kind,
-            b: 0,
-            c: 0,
-            d: 0,
-        },
-    );
+    let c = table::slots::get(w, 1752 + (r.depth - 1));
+    put_mark(w, height, 0, c.kind);
     let mut q = r;
     q.height = height + 1;
     q.ok = true;

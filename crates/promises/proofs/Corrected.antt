@@ -1,23 +1,20 @@
 -- A book that ran and a corrected one: what the first's run tells of the second's. In order: what an accepted verdict tells; what load
 -- tells; the second's verdicts. Assumes nothing.
-use Prim.Native.Nat.{ℕ, suc, _+_, _-_, _≤_, _<_}
+use Prim.Native.Nat.{ℕ, _+_, _-_, _≤_, _<_}
 use native.Mathlib.Omega.{arith}
-use mathlib.Core.Path.{_≡_, refl, sym, ap, _∙_}
-use mathlib.Core.Bool.{Bool, true, false, _&&_}
-use mathlib.Core.List.{List, []}
+use mathlib.Core.Path.{_≡_, refl, ap, _∙_}
+use mathlib.Core.Bool.{Bool, true, false}
+use mathlib.Core.List.{List}
 use lib.Dec.{eqb, leb}
 use lib.IntN.{ℤ, pos, natAbs}
-use lib.Signed.{leZ, ltZ}
-use lib.ListN.{length, getD}
+use lib.ListN.{length}
 use borrow.Author.Tests.{le-leb, lt-ltb}
 use Rattle.numbers.proofs.Cond.{by-test}
-use Rattle.tokens.specs.declared.Refusal.{Refusal}
-use Rattle.tokens.specs.declared.Refusal.the-variants.{TooLong}
 use Rattle.tokens.specs.declared.Outcome.{Outcome}
-use Rattle.tokens.specs.declared.Outcome.the-variants.{Done, Refused}
+use Rattle.tokens.specs.declared.Outcome.the-variants.{Done}
 use Rattle.tokens.specs.Format.{longest}
 use Rattle.machine.specs.Limits.{scratchSize, rowsSize, sectionsSize}
-use Rattle.machine.specs.Skeleton.{Span, Skeleton, sound, refused, skeletonOf}
+use Rattle.machine.specs.Skeleton.{Skeleton, sound, refused, skeletonOf}
 use Rattle.machine.specs.Step.{outcome}
 use Rattle.machine.specs.Page.{bodiesOf, preambleOf, preambleEnd}
 use Rattle.machine.specs.Promise.{Verdict, accepted, unfinished, halted, onSound, allowed, admitted, finished, pagesIn, loadAnswer, Loads, runVerdict, runAnswer, Runs, paged, reprintVerdict, reprintAnswer, Reprints}

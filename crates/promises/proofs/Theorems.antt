@@ -1,6 +1,6 @@
 -- The customer's theorem, over the promises of `load`, `run` and `reprint`; the theorems that it stands on are those of `machine`.
 -- `bodiesIn s` are the bytes of the master's bodies, the preamble's first. Work: Corrected. Assumes nothing.
-use Prim.Native.Nat.{ℕ, _+_, _≤_}
+use Prim.Native.Nat.{ℕ, _≤_}
 use native.Mathlib.Omega.{arith}
 use mathlib.Core.Path.{_≡_}
 use mathlib.Core.Logic.{_≢_}

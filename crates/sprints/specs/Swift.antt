@@ -107,7 +107,8 @@ pub record Ready (code : Code) (b : List ℕ) (at : ℕ) (w : List ℕ) (r : Reg
   pub bytes : b ≡ bytesOf code (origin w (r .depth))
   pub place : at ≡ running (contextsOf (slots w) (r .depth)) .at
 
--- a literal tried within a step; `ok` says whether it was executed
+-- a literal tried within a step; `ok` says whether it was executed. Where it was not, the cells that it may have charged are given back, and no
+-- frame of a context lies in them (`frames`)
 pub record Attempted (code : Code) (w : List ℕ) (r : Registers) (w′ : List ℕ) (r′ : Registers) : Type 0 where
   pub busy : Busy w′ r′
   pub counted : r′ .steps ≡ r .steps + 1
@@ -134,7 +135,8 @@ abbrev pub lifted : Registers → ℕ → Registers
 lifted r h = record { height = h; depth = r .depth; used = r .used; steps = r .steps; errors = r .errors; skipping = r .skipping; ok = r .ok }
 
 -- a row of literals from `at` on, at most so many, after n steps: where it has come to, but for the place, the steps and the end of bodies
--- (`does`); where it tells of the literal there that it is an operator (`here`) or fails (`falls`), no body has ended
+-- (`does`); where it tells of the literal there that it is an operator (`here`) or fails (`falls`), no body has ended. The frames in progress
+-- still lie where no store and no charge falls on them (`frames`)
 pub record Rowed (code : Code) (b : List ℕ) (at n most : ℕ) (w : List ℕ) (r : Registers) (w′ : List ℕ) (t : Reach) : Type 0 where
   pub fits : t .height ≤ mostEntries
   pub keeps : aside w′ ≡ aside w

@@ -10,7 +10,6 @@ use Rattle.table.specs.declared.Slot.{Slot}
 use Rattle.table.specs.Slots.{mk}
 use Rattle.numbers.specs.declared.Number as num
 use Rattle.machine.specs.declared.Value.the-variants.{Number, Identifier, Vector, Operator}
-use Rattle.machine.specs.Contexts.{from}
 use Rattle.machine.specs.Engine.{fits}
 use Rattle.state.specs.Layout.{valueIn}
 use lib.Signed.{mag}

@@ -10,9 +10,9 @@ use Rattle.table.specs.declared.Slot.{Slot}
 use Rattle.table.specs.Slots.{nil, asc, desc, copied, rolled}
 use Rattle.table.proofs.Moves.{Same, same-set, Apart, desc-cong, stack-cut, stack-take, stack-drop, part-drop, roll-stack, length-desc, asc-store, getD-asc, getD-desc, asc-moved, desc-moved, asc-cut}
 use Rattle.machine.specs.declared.Value.{Value}
-use Rattle.machine.specs.State.{Entry, val, mark, running}
-use Rattle.machine.specs.Contexts.{above, beneath, over, from}
-use Rattle.machine.specs.Engine.{values, lastFrame, storeIn}
+use Rattle.machine.specs.State.{Entry, val, mark}
+use Rattle.machine.specs.Contexts.{above, beneath, over}
+use Rattle.machine.specs.Engine.{lastFrame, storeIn}
 use Rattle.state.specs.Layout.{valueIn, entryIn, stackOf, valuesAt, frameAt, frameOf, contextIn, contextAt, contextsOf, lent}
 use lib.ListN.{length-map}
 use Rattle.state.proofs.Parts.{frame-first, lent-same, lent-less, lent-top, contexts-same, contexts-top, length-values}

@@ -13,8 +13,7 @@ use Rattle.table.specs.Slots.{nil, mk, slots}
 use Rattle.table.proofs.Moves.{same-set}
 use Rattle.machine.specs.declared.Value.{Value}
 use Rattle.machine.specs.State.{Entry, val, Context, State}
-use Rattle.machine.specs.Contexts.{over, atEnd, recover, failing, leaveAt, leave, skipAt, fault, settle, skippedIn, skipped}
-use Rattle.machine.specs.Engine.{turn}
+use Rattle.machine.specs.Contexts.{atEnd, recover, failing, leaveAt, leave, skipAt, fault, settle, skippedIn, skipped}
 use Rattle.state.specs.declared.Registers.{Registers}
 use Rattle.state.specs.Layout.{valueIn, entryIn, stackOf, contextIn, contextsOf, abs, lent, Good, Busy, Done, spot, Landed}
 use Rattle.state.proofs.Parts.{wide, room-of, values-same, lent-same, lent-less, contexts-same, length-stack, stack-more, contexts-at}

@@ -12,7 +12,6 @@ use Rattle.table.specs.Slots.{nil, slots, asc, desc}
 use Rattle.table.proofs.SlotLists.{roomy, room-back}
 use Rattle.table.proofs.Moves.{Same, same-set, asc-cong, desc-cong, stack-push, stack-pop, length-desc, length-asc}
 use Rattle.machine.specs.declared.Value.{Value}
-use Rattle.machine.specs.State.{running}
 use Rattle.state.specs.Layout.{valueIn, entryIn, stackOf, valuesAt, frameAt, frameOf, contextIn, contextAt, contextsOf, aside, lentBy, lent}
 use lib.ListN.{length-map}
 

@@ -3,7 +3,6 @@ use mathlib.Core.Path.{_≡_, refl, ap, ap₂, sym, _∙_}
 use mathlib.Core.Bool.{Bool, true, false}
 use mathlib.Core.Logic.{inl, inr}
 use mathlib.Core.List.{List, [], _∷_, _++_, append-nil}
-use mathlib.Core.Option.{some}
 use Prim.Native.Nat.{ℕ, zero, suc, _+_, _-_, _≤_, _<_}
 use native.Mathlib.Omega.{arith}
 use borrow.Author.Tests.{eq-eqb, ne-eqb, le-leb, lt-leb, leb-true}
@@ -25,7 +24,7 @@ use Rattle.state.specs.Operations.{pushTwo, utter}
 use Rattle.state.proofs.Coding.{name-slot}
 use Rattle.state.proofs.Parts.{wide, room-of, stack-same, contexts-at, stack-at, stack-more, length-stack}
 use Rattle.state.proofs.Cutting.{over-take, over-above, over-drop, entriesAt, length-entries, stack-taken, stack-dropped, stack-joined, entries-moved, entries-drop, entries-rolled}
-use Rattle.state.proofs.Trying.{trying, failed, tried-no, tried-yes, tried-as, tried-from, pops-is, aside-above, stack-only, fits-stack, full-stack, lent-above}
+use Rattle.state.proofs.Trying.{trying, failed, tried-no, tried-as, tried-from, pops-is, full-stack, stack-made}
 use Rattle.machine.specs.State as state
 
 -- ---- how many there are
@@ -116,11 +115,8 @@ push-yes {w} {w′} {r} {r′} v g n h p q =
     let l : 2400 ≤ length (set m (r .height) v) = rw length-set room in
     let rm = room-of w′ (set m (r .height) v) p l in
     let st : stackOf (slots w′) (r .height + 1) ≡ val (valueIn v) ∷ stackOf m (r .height) = rw (p, ← (value-entry v n)) (stack-more m (r .height) v (omega arith)) in
-    let len : length (val (valueIn v) ∷ stackOf m (r .height)) ≤ 128 = omega (arith, length-stack m (r .height)) in
     let sm : Same (slots w′) m 128 1814 = rw p (same-set m (r .height) v 128 1814 (inl h)) in
-    rw q (tried-yes (omega (arith, lent-above w w′ (r .depth) (g .depth-fits) sm)) (aside-above w w′ sm) refl refl
-    (fits-stack w r (val (valueIn v) ∷ stackOf m (r .height)) g len ∙
-    ap some (sym (stack-only w w′ r (r .height + 1) (val (valueIn v) ∷ stackOf m (r .height)) g sm st))))
+    stack-made (r .height + 1) (val (valueIn v) ∷ stackOf m (r .height)) g rm (omega arith) sm st refl q
 
 pub push-no : {w : List ℕ} {r r′ : Registers} (v : Slot) → Busy w r → 128 ≤ r .height → r′ ≡ failed r → Tried (push (valueIn v)) w r w r′
 unfolding push
@@ -161,8 +157,7 @@ module _ {w : List ℕ} {r : Registers} (v u : Value) (g : Busy w r) where
       let st : stackOf (slots w′) (n + 2) ≡ s =
       rw (pm, e, ← ex, ← ey, ← (value-entry x nx), ← (value-entry y ny)) (stack-more m₁ (n + 1) y (omega arith) ∙ ap (λ l. entryIn y ∷ l) (stack-more m n x (omega arith))) in
       let sm : Same (slots w′) m 128 1814 = rw pm (same-then m′ m₁ m 128 1814 (same-set m₁ (n + 1) y 128 1814 (inl (omega arith))) (same-set m n x 128 1814 (inl (omega arith)))) in
-      let len : length s ≤ 128 = omega (arith, length-stack m n) in
-      rw q (tried-yes (omega (arith, lent-above w w′ (r .depth) (g .depth-fits) sm)) (aside-above w w′ sm) refl refl (fits-stack w r s g len ∙ ap some (sym (stack-only w w′ r (n + 2) s g sm st))))
+      stack-made (n + 2) s g rm (omega arith) sm st refl q
 
 -- ---- values above the mark, put together anew
 
@@ -231,7 +226,7 @@ module _ {w : List ℕ} {r : Registers} (n : ℕ) (b : Bool) (g : Busy w r) (eb 
         let st : stackOf (slots w′) (h + n) ≡ copies =
         rw p (stack-joined m′ h n ∙
         ap₂ _++_ (entries-moved m (h - n) h n (omega arith) (inl (omega arith))) (stack-same m′ m h (same-copied m (h - n) h n 0 h (inr (omega arith))))) in
-        rw q (tried-yes (omega (arith, lent-above w w′ (r .depth) (g .depth-fits) sm)) (aside-above w w′ sm) refl refl (repeat-is ∙ fits-stack w r copies g (omega (arith, copies-long)) ∙ ap some (sym (stack-only w w′ r (h + n) copies g sm st))))
+        stack-made (h + n) copies g rm f sm st repeat-is q
 
   -- ROLL
 
@@ -295,7 +290,7 @@ module _ {w : List ℕ} {r : Registers} (n : ℕ) (b : Bool) (g : Busy w r) (eb 
           let st : stackOf (slots w′) h ≡ turned =
           rw p (ap (stackOf m′) e ∙ entries-rolled m a n j jn (omega arith) (omega arith) ∙
           ap (λ k. entriesAt m a (n - j) ++ (entriesAt m k j ++ stackOf m a)) e′) in
-          rw q (tried-yes (omega (arith, lent-above w w′ (r .depth) (g .depth-fits) sm)) (aside-above w w′ sm) refl refl (turn-is ∙ fits-stack w r turned g (omega (arith, turned-long)) ∙ ap some (sym (stack-only w w′ r h turned g sm st))))
+          stack-made h turned g rm (g .stack-fits) sm st turn-is q
 
 -- ---- two are enough to know whether there are a, of at most two
 

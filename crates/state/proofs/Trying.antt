@@ -1,5 +1,5 @@
 -- An operation that may fail: what its answer says, where only the stack changes, and the limits. Assumes nothing.
-use mathlib.Core.Path.{_≡_, refl, sym, _∙_}
+use mathlib.Core.Path.{_≡_, refl, ap, sym, _∙_}
 use mathlib.Core.Bool.{Bool, true, false}
 use mathlib.Core.List.{List}
 use mathlib.Core.Option.{Option, none, some}
@@ -10,8 +10,8 @@ use lib.ListN.{length}
 use Rattle.table.specs.Slots.{slots}
 use Rattle.table.proofs.Moves.{Same}
 use Rattle.machine.specs.State.{Entry, State}
-use Rattle.machine.specs.Contexts.{above, from}
-use Rattle.machine.specs.Engine.{fits, limited, withStack, values, pops}
+use Rattle.machine.specs.Contexts.{above}
+use Rattle.machine.specs.Engine.{fits, limited, withStack, pops}
 use Rattle.state.specs.declared.Registers.{Registers}
 use Rattle.state.specs.Layout.{stackOf, aside, abs, lent, Busy, answer, Tried}
 use Rattle.state.proofs.Parts.{values-same, lent-same, contexts-same, length-stack, length-values, length-contexts, aside-same}
@@ -66,6 +66,13 @@ stack-only w w′ r height l g h e =
 pub fits-stack : (w : List ℕ) (r : Registers) (l : List Entry) → Busy w r → length l ≤ 128 → limited (withStack l (abs w r)) ≡ some (withStack l (abs w r))
 unfolding limited fits
 fits-stack w r l g h = rw (le-leb (length l) 128 h, length-contexts, le-leb (r .depth) 12 (g .depth-fits), length-values, le-leb (r .used) 1024 (g .cells-fit))
+
+-- such an operation, done
+pub stack-made : {f : State → Option State} {w w′ : List ℕ} {r r′ : Registers} (height : ℕ) (l : List Entry) → Busy w r → 48000 ≤ length w′ → height ≤ 128 → Same (slots w′) (slots w) 128 1814
+    → stackOf (slots w′) height ≡ l → f (abs w r) ≡ limited (withStack l (abs w r)) → r′ ≡ trying r height (r .depth) (r .used) true → Tried f w r w′ r′
+stack-made {w} {w′} {r} height l g rm h sm st meant q =
+    let len : length l ≤ 128 = omega (arith, ap length st, length-stack (slots w′) height) in
+    rw q (tried-yes (omega (arith, lent-above w w′ (r .depth) (g .depth-fits) sm)) (aside-above w w′ sm) refl refl (meant ∙ fits-stack w r l g len ∙ ap some (sym (stack-only w w′ r height l g sm st))))
 
 pub full-stack : (w : List ℕ) (r : Registers) (l : List Entry) → 128 < length l → limited (withStack l (abs w r)) ≡ none
 unfolding limited fits

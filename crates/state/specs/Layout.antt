@@ -91,7 +91,7 @@ abs w r = record {
 unfoldable pub lentBy : ℕ → ℕ → ℕ
 lentBy i k = cond (eqb k (50 * i)) 0 (cond (leb (k + 50) (50 * i)) 0 (cond (leb 1 i && leb 600 k) (k - 550) (suc mostCells)))
 
--- the most that one of d contexts takes
+-- the most that one of d contexts takes: a + (b - a) is the larger of two
 unfoldable pub lent : List Slot → ℕ → ℕ
 lent m zero = 0
 lent m (suc i) = lent m i + (lentBy i (getD m (1752 + i) nil .d % 4096) - lent m i)

@@ -1,9 +1,10 @@
 -- What operations of the table mean where the definitions of the machine say it within a larger one. Assumes nothing.
-use Prim.Native.Nat.{ℕ, zero, suc, _+_, _-_, _<_}
+use Prim.Native.Nat.{ℕ, zero, suc, _+_, _-_, _%_, _<_}
 use mathlib.Core.Path.{_≡_}
 use mathlib.Core.Bool.{Bool, true, false}
 use mathlib.Core.List.{List, [], _∷_, map}
 use mathlib.Core.Option.{Option}
+use lib.Dec.{leb}
 use lib.ListN.{length, getD, set, take, drop}
 use Rattle.table.specs.declared.Slot.{Slot}
 use Rattle.table.specs.Slots.{nil, mk, slots, asc, copied}
@@ -54,6 +55,10 @@ spell b start s = let l = lettersAt b start in charge l 0 (Vector (length (s .ce
 -- a body entered from `at` to `end`
 abbrev pub entered : ℕ → ℕ → ℕ → Bool → List Value → State → Context
 entered origin at end owes frame s = record { id = s .steps; origin = origin; at = at; end = end; owes = owes; frame = frame }
+
+-- on the frame that the last word of its context says, in the table with the slots m
+unfoldable pub enterOn : List Slot → ℕ → ℕ → ℕ → ℕ → State → Option State
+enterOn m origin at end word s = enter (entered origin at end (leb 4096 word) (valuesAt m (128 + word % 4096) frameSize) s) s
 
 -- with a copy of the running frame
 unfoldable pub inline : ℕ → ℕ → Bool → State → Option State

@@ -20,7 +20,7 @@ use Rattle.machine.specs.declared.Value.{Value}
 use Rattle.machine.specs.declared.Value.the-variants.{Number, Vector, Operator}
 use Rattle.machine.specs.State.{Entry, val, mark, State, running}
 use Rattle.machine.specs.Contexts.{above, over}
-use Rattle.machine.specs.Engine.{fits, limited, provided, values, charge, build, compose, place}
+use Rattle.machine.specs.Engine.{fits, limited, provided, charge, build, compose, place}
 use Rattle.state.specs.declared.Registers.{Registers}
 use Rattle.state.specs.Layout.{valueIn, entryIn, stackOf, valuesAt, frameOf, contextIn, abs, Busy, Tried}
 use lib.ListN.{length-map}

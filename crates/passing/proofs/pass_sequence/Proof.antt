@@ -7,7 +7,7 @@ use lib.ListN.{length}
 use Prim.Native.Nat.{_+_}
 use borrow.Author.Tests.{not-true}
 use native.Mathlib.Omega.{arith}
-use mathlib.Core.Path.{_≡_, sym, ap, _∙_}
+use mathlib.Core.Path.{sym, ap, _∙_}
 use borrow.Author.Needs.{needs}
 use Rattle.passing.proofs.pass_sequence.Statement.{statement}
 use Rattle.passing.proofs.pass_sequence.Tie as tie

@@ -1,6 +1,5 @@
 -- `bodies::call` meets its contract. Assumes nothing.
-use mathlib.Core.Path.{refl}
-use Rattle.contexts.proofs.Entering.{call-full, call-yes}
+use Rattle.contexts.proofs.Entering.{call-takes, call-on}
 use borrow.Author.Needs.{needs}
 use Rattle.contexts.proofs.bodies.call.Statement.{statement}
 use Rattle.contexts.proofs.bodies.call.Tie as tie
@@ -9,12 +8,9 @@ pub call-spec : {M : Type 1} → statement M
 call-spec =
     tie.close
     (tie.spec
-    (λ c κs. search needs)
-    (λ c. search (needs, call-full))
     (λ c. search needs)
     (λ c κs. search needs)
     (λ c κs. search needs)
-    (λ c κs. search needs)
+    (λ c κs. (c .before .before .before .before .pre .0, call-takes 0 0 0 _ _ _ (c .before .before .before .before .pre .0) (c .before .before .before .before .pre .1) (c .before .before .word .ensures) (c .before .last-word .ensures)))
     (λ c. search needs)
-    (λ c. search needs)
-    (λ c. call-yes _ _ _ _ (c .before .before .before .before .before .before .before .before .pre .0) (c .before .before .before .before .before .before .before .before .pre .1) _ _ (c .before .before .before .before .before .before .if1 .left) (c .before .before .before .before .before .word .ensures) (c .before .before .before .before .lying .ensures) (c .before .before .put-context .ensures) refl))
+    (λ c. call-on _ _ _ _ _ _ (c .before .before .before .before .before .before .before .pre .0) (c .before .before .before .before .before .before .before .pre .1) (c .before .before .before .before .before .word .ensures) (c .before .before .before .before .last-word .ensures) (c .before .before .enter-on .ensures)))

@@ -1,6 +1,5 @@
 -- `bodies::inline` meets its contract. Assumes nothing.
-use mathlib.Core.Path.{refl}
-use Rattle.contexts.proofs.Entering.{inline-full, inline-yes}
+use Rattle.contexts.proofs.Entering.{inline-takes, inline-on}
 use borrow.Author.Needs.{needs}
 use Rattle.contexts.proofs.bodies.inline.Statement.{statement}
 use Rattle.contexts.proofs.bodies.inline.Tie as tie
@@ -9,13 +8,10 @@ pub inline-spec : {M : Type 1} → statement M
 inline-spec =
     tie.close
     (tie.spec
-    (λ c κs. search needs)
-    (λ c. search (needs, inline-full))
     (λ c. search needs)
     (λ c. search needs)
     (λ c κs. search needs)
     (λ c κs. search needs)
-    (λ c κs. search needs)
+    (λ c κs. (c .before .before .before .before .before .before .before .pre, inline-takes 0 0 _ _ _ (c .before .before .before .before .before .before .before .pre) (c .before .before .before .get .ensures) (c .last-word .ensures)))
     (λ c. search needs)
-    (λ c. search needs)
-    (λ c. inline-yes _ _ _ (c .before .before .before .before .before .before .before .before .before .before .pre) _ _ (c .before .before .before .before .before .before .before .before .if1 .left) (c .before .before .before .before .before .before .get .ensures) (c .before .before .before .before .lying .ensures) (c .before .before .put-context .ensures) refl))
+    (λ c. inline-on _ _ _ _ _ (c .before .before .before .before .before .before .before .before .before .before .pre) (c .before .before .before .before .before .before .get .ensures) (c .before .before .before .last-word .ensures) (c .before .before .enter-on .ensures)))

@@ -26,4 +26,4 @@ own-spec =
     (λ c. search needs)
     (λ c κs. search needs)
     (λ c. search needs)
-    (λ c. own-made (c .before .before .before .before .before .before .before .before .before .before .before .before .before .before .before .before .before .pre) _ (c .before .before .before .before .before .before .before .before .before .before .before .before .before .before .get .ensures) (λ e. c .before .before .before .before .before .before .before .before .before .before .before .if1 .left (omega (arith, c .before .before .before .before .before .before .before .before .before .before .before .before .size .ensures .0))) _ _ (c .before .before .before .before .lying .ensures .1) (rw (c .before .before .before .before .before .before .word .ensures) at (c .before .before .before .before .lying .ensures .0)) (rw (c .before .before .before .before .before .before .before .before .before .before .before .before .size .ensures .0) at (c .before .before .before .before .before .before .before .before .before .copy-long .ensures)) (c .before .before .put .ensures)))
+    (λ c. own-made (c .before .before .before .before .before .before .before .before .before .before .before .before .before .before .before .before .before .pre) _ (c .before .before .before .before .before .before .before .before .before .before .before .before .before .before .get .ensures) (λ e. c .before .before .before .before .before .before .before .before .before .before .before .if1 .left (omega (arith, c .before .before .before .before .before .before .before .before .before .before .before .before .size .ensures .0))) _ _ (c .before .before .before .before .last-word .ensures .1) (rw (c .before .before .before .before .before .before .word .ensures) at (c .before .before .before .before .last-word .ensures .0)) (rw (c .before .before .before .before .before .before .before .before .before .before .before .before .size .ensures .0) at (c .before .before .before .before .before .before .before .before .before .copy-long .ensures)) (c .before .before .put .ensures)))

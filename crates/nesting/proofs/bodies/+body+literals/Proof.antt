@@ -1,6 +1,6 @@
 -- `bodies::body` and `bodies::literals`, which call each other, meet their contracts: the bytes left fall at each call, and in the loop over
 -- a body's literals those from here on end as all of them do. Assumes nothing.
-use mathlib.Core.Path.{_≡_, refl, ap, _∙_}
+use mathlib.Core.Path.{refl, ap, _∙_}
 use Prim.Native.Nat.{ℕ, _-_, _<_}
 use native.Mathlib.Nat.{le-refl}
 use native.Mathlib.Omega.{arith}

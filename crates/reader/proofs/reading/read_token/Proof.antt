@@ -1,6 +1,5 @@
 -- `reading::read_token` meets its contract: by the form. Assumes nothing.
-use Prim.Native.Nat.{ℕ}
-use mathlib.Core.Path.{_≡_, sym, _∙_}
+use mathlib.Core.Path.{sym, _∙_}
 use borrow.Author.Needs.{needs}
 use Rattle.tokens.specs.declared.Form.the-variants.{Number, Operator, Sequence, Cut}
 use Rattle.tokens.specs.Passing.{Shows}

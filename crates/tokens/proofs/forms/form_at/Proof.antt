@@ -1,5 +1,5 @@
 -- `forms::form_at` meets its contract: the first byte's classes in the definition's order. Assumes nothing.
-use Prim.Native.Nat.{_+_, _≤_}
+use Prim.Native.Nat.{_+_}
 use lib.ListN.{length, getD}
 use Rattle.tokens.specs.Token.{tokenAt, tokenOf}
 use borrow.Author.Tests.{le-ltb, lt-ltb}

@@ -1,14 +1,14 @@
--- `frames::lying` meets its contract. Assumes nothing.
+-- `frames::last_word` meets its contract. Assumes nothing.
 use Prim.Native.Nat.{_+_}
 use borrow.Author.Tests.{le-leb, lt-leb}
 use mathlib.Core.Path.{_∙_, sym}
 use native.Mathlib.Omega.{arith}
 use borrow.Author.Needs.{needs}
-use Rattle.contexts.proofs.frames.lying.Statement.{statement}
-use Rattle.contexts.proofs.frames.lying.Tie as tie
+use Rattle.contexts.proofs.frames.last_word.Statement.{statement}
+use Rattle.contexts.proofs.frames.last_word.Tie as tie
 
-pub lying-spec : {M : Type 1} → statement M
-lying-spec =
+pub last-word-spec : {M : Type 1} → statement M
+last-word-spec =
     tie.close
     (tie.spec
     (λ c. search needs)
