@@ -1,66 +1,103 @@
--- Steps of a run. In order: bodies that have been judged; a step; some steps, and a run of them. Assumes nothing.
+-- Steps of a run. In order: a literal passed over; skipping; several steps, and a run of them. Assumes nothing.
 use Prim.Native.Nat.{ℕ, suc, _+_, _-_, _≤_, _<_}
 use native.Mathlib.Omega.{arith}
-use mathlib.Core.Path.{_≡_, sym, _∙_}
-use mathlib.Core.Bool.{true, false}
-use mathlib.Core.List.{List}
-use mathlib.Core.Option.{some}
-use lib.ListN.{length}
+use mathlib.Core.Path.{_≡_, refl, sym, ap, _∙_}
+use mathlib.Core.Bool.{Bool, true, false, not, _&&_, and-false}
+use mathlib.Core.List.{List, [], _∷_}
+use borrow.Author.Tests.{eqb-true}
+use lib.Dec.{eqb}
 use Rattle.table.specs.Slots.{slots}
-use Rattle.machine.specs.State.{State, running}
-use Rattle.machine.specs.Literal.{Code, bytesOf}
-use Rattle.machine.specs.Contexts.{fault, settle}
-use Rattle.machine.specs.Engine.{place, does}
-use Rattle.machine.specs.Step.{run}
-use Rattle.machine.proofs.Legible.{Legible, legible-run, going-on, going-literal}
-use Rattle.literals.specs.Dues.{LiteralThere}
+use Rattle.machine.specs.declared.Literal.{Literal}
+use Rattle.machine.specs.declared.Literal.the-variants.{Figure, Name, Text, Plain, WithBody}
+use Rattle.machine.specs.State.{Entry, val, mark, Context, State, running}
+use Rattle.machine.specs.Literal.{Code, bytesOf, foundAt}
+use Rattle.machine.specs.Contexts.{atEnd, from, Spot, landedAt, landed, recover, skipAt, skippedIn, skipped}
+use Rattle.machine.specs.Step.{execute, executed, isUnmark0, literalStep, begun, ended, stepBy, dueIn, step, run}
+use Rattle.literals.specs.declared.Ahead.{Ahead}
+use Rattle.literals.specs.Dues.{Passes}
 use Rattle.names.specs.Names.{both}
 use Rattle.state.specs.declared.Place.{Place}
 use Rattle.state.specs.declared.Registers.{Registers}
-use Rattle.state.specs.Layout.{contextsOf, aside, abs, Good, Done}
+use Rattle.state.specs.Layout.{contextsOf, abs, Done, Begun, aside, Good}
 use Rattle.state.proofs.Ending.{not-on}
-use Rattle.origins.specs.Bodies.{Short}
-use Rattle.sprints.specs.Swift.{stepped, Executes, Ready, Attempted}
-use Rattle.rides.specs.Rides.{Led}
-use Rattle.engine.specs.Steps.{Stepped, Onward}
-use Rattle.origins.proofs.ByOrigin.{bytes-short}
-use Rattle.sprints.proofs.Swiftly.{not-ended, run-next, run-both, good-as}
+use Rattle.rides.specs.Rides.{Paced, Led}
+use Rattle.machine.proofs.Legible.{Legible, legible-run}
+use Rattle.sprints.proofs.Swiftly.{run-next, run-both, good-as}
+use Rattle.paces.specs.Paces.{Stepped}
+use Rattle.engine.specs.Steps.{Onward}
 
-pub bytes-fit : (pre body b : List ℕ) {at : ℕ} {w : List ℕ} {r : Registers} → Ready (both pre body) b at w r → Short pre body → length b ≤ 16777215
-bytes-fit pre body b {at} {w} {r} ready short = rw (ready .bytes) (bytes-short pre body (running (contextsOf (slots w) (r .depth)) .origin) short)
+-- ---- a literal passed over
 
--- ---- bodies that have been judged
+-- the running context stands at this depth
+pub here-at : (w : List ℕ) (r : Registers) (c : Place) (depth : ℕ) → r .depth ≡ depth → (c .origin ≡ running (contextsOf (slots w) depth) .origin) × (c .start ≡ running (contextsOf (slots w) depth) .at) → (c .origin ≡ running (contextsOf (slots w) (r .depth)) .origin) × (c .start ≡ running (contextsOf (slots w) (r .depth)) .at)
+here-at w r c depth e h = rw e h
 
--- the literal that is due stands where the running body goes on
-pub stands-now : (w : List ℕ) (r : Registers) (pre body b : List ℕ) (c : Place) (at : ℕ) → Legible (both pre body) (abs w r) → 0 < r .depth
-    → (c .origin ≡ running (contextsOf (slots w) (r .depth)) .origin) × (c .start ≡ running (contextsOf (slots w) (r .depth)) .at) → b ≡ bytesOf (both pre body) (c .origin) → at ≡ c .start → LiteralThere b at
-stands-now w r pre body b c at h runs here eb ea =
-    rw (eb, here .0, ea, here .1) (going-literal (going-on (both pre body) (abs w r) h (not-ended (slots w) (r .depth) runs)))
+unmark-by : (n : ℕ) (b : Bool) → eqb n 192 ≡ b → b ≡ true → Plain n ≡ Plain 192
+unmark-by n true e h = rw (eqb-true n 192 e)
+unmark-by n false e h = not-on h
+
+unmark-is : (x : Literal) → isUnmark0 x ≡ true → x ≡ Plain 192
+unfolding isUnmark0
+unmark-is (Figure a) h = not-on h
+unmark-is (Name start len) h = not-on h
+unmark-is (Text start) h = not-on h
+unmark-is (Plain n) h = unmark-by n (eqb n 192) refl h
+unmark-is (WithBody n start len) h = not-on h
+
+-- a literal passed over
+module _ (w : List ℕ) (r : Registers) (pre body b : List ℕ) (c : Place) (at n : ℕ) (a : Ahead)
+    (here : (c .origin ≡ running (contextsOf (slots w) (r .depth)) .origin) × (c .start ≡ running (contextsOf (slots w) (r .depth)) .at)) (eb : b ≡ bytesOf (both pre body) (c .origin)) (ea : at ≡ c .start)
+    (p : Passes (foundAt b at) a) where
+  -- it is UNMARK0, and not passed over
+  pub unmark-step : {w′ : List ℕ} {r′ : Registers} → a .unmarks ≡ true → n ≡ a .next → Paced (both pre body) (Plain 192) n w r w′ r′ → Stepped pre body w r w′ r′
+  unfolding step stepBy dueIn literalStep
+  unmark-step {w′} {r′} u en d =
+      let x : foundAt b at .literal ≡ Plain 192 = unmark-is (foundAt b at .literal) (sym (p .unmarks) ∙ u) in
+      let s : r .skipping && not (isUnmark0 (foundAt b at .literal)) ≡ false = rw (← (p .unmarks), u) (and-false (r .skipping)) in
+      let z : step (both pre body) (abs w r) ≡ executed (begun n (abs w r)) (execute (both pre body) (Plain 192) (begun n (abs w r))) = rw (← (here .0), ← (here .1), ← eb, ← ea, s, ← (p .next), ← en, x) in
+      record { good = d .good; does = d .does ∙ sym z; keeps = d .keeps; counted = d .counted }
+
+  pub skip-step : {w₁ w′ : List ℕ} {q r′ : Registers} → a .unmarks ≡ false → n ≡ a .next → Begun n w r w₁ q → r .skipping ≡ true → Done skipped w₁ q w′ r′ → Stepped pre body w r w′ r′
+  unfolding step stepBy dueIn literalStep
+  skip-step {w₁} {w′} {q} {r′} u en be on d =
+      let z : step (both pre body) (abs w r) ≡ skipped (abs w₁ q) = rw (← (here .0), ← (here .1), ← eb, ← ea, ← (p .next), ← en, ← (be .does), on, ← (p .unmarks), u) in
+      record { good = d .good; does = d .does ∙ sym z; keeps = d .keeps ∙ be .keeps; counted = d .counted ∙ be .counted }
+
+-- skipping goes on
+landed-skips : (k : ℕ) (s : List Entry) (cs rest : List Context) (again : List Context → Spot) → ((l : List Context) → again l .skipping ≡ true) → landed k s cs rest again .skipping ≡ true
+unfolding landed landedAt
+landed-skips k s cs [] again h = h cs
+landed-skips k s cs (c ∷ rest) again h = by-end (atEnd c)
+  where
+    by-end : (b : Bool) → landedAt b k s c rest again .skipping ≡ true
+    by-end true = h rest
+    by-end false = refl
+
+recover-skips : (s : List Entry) (cs : List Context) → recover s cs .skipping ≡ true
+unfolding recover
+recover-skips [] cs = refl
+recover-skips (val v ∷ s) cs = recover-skips s cs
+recover-skips (mark k ∷ s) cs = landed-skips k s cs (from k cs) (recover s) (λ l. recover-skips s l)
+
+skips-on : (s : State) → s .skipping ≡ true → skipped s .skipping ≡ true
+unfolding skipped skippedIn skipAt
+skips-on s h = by-contexts (s .contexts)
+  where
+    by-end : (b : Bool) (c : Context) (cs : List Context) → skipAt b (s .stack) c cs .skipping ≡ true
+    by-end true c cs = recover-skips (s .stack) cs
+    by-end false c cs = refl
+
+    by-contexts : (l : List Context) → skippedIn s l .skipping ≡ true
+    by-contexts [] = h
+    by-contexts (c ∷ cs) = by-end (atEnd c) c cs
+
+pub still-skips : {w w′ : List ℕ} {q r′ : Registers} → Done skipped w q w′ r′ → q .skipping ≡ true → r′ .skipping ≡ true
+still-skips {w} {w′} {q} {r′} d h = ap (λ (s : State). s .skipping) (d .does) ∙ skips-on (abs w q) h
+
+-- ---- a run, some steps at a time
 
 pub legible-then : {s t : State} (code : Code) (n : ℕ) → Legible code s → run n code s ≡ t → Legible code t
 legible-then {s} {t} code n h e = rw (← e) (legible-run code n s h)
-
--- ---- a step
-
--- so it is with the bytes of the running body
-pub ready-now : {w : List ℕ} {r : Registers} (pre body b : List ℕ) (c : Place) (at : ℕ) → Good w r → 0 < r .depth → Executes (both pre body) (abs w r) → r .steps < 4294967295
-    → (c .origin ≡ running (contextsOf (slots w) (r .depth)) .origin) × (c .start ≡ running (contextsOf (slots w) (r .depth)) .at) → b ≡ bytesOf (both pre body) (c .origin) → at ≡ c .start → Ready (both pre body) b at w r
-ready-now pre body b c at g runs x few here eb ea =
-    record { good = g; runs = runs; executes = x; few = few; bytes = rw (← (here .0)) eb; place = ea ∙ here .1 }
-
-module _ {w w₁ : List ℕ} {r p : Registers} (pre body : List ℕ) (t : Attempted (both pre body) w r w₁ p) where
-  pub pace-settles : {w′ : List ℕ} {r′ : Registers} → p .ok ≡ true → Done settle w₁ p w′ r′ → Stepped pre body w r w′ r′
-  pace-settles o d = record { good = d .good; does = d .does ∙ t .does o; keeps = d .keeps ∙ t .keeps; counted = d .counted ∙ t .counted }
-
-  -- one that has failed may recover
-  pub pace-recovers : Good w r → p .ok ≡ false → Good w₁ (stepped r (r .height)) × (r .errors < r .steps + 1)
-  pace-recovers g o =
-      (record { room = t .busy .room; stack-fits = g .stack-fits; depth-fits = g .depth-fits; cells-fit = g .cells-fit; frames-fit = t .frames o; errors-fit = omega (arith, g .errors-fit) }, omega (arith, g .errors-fit))
-
-  pub pace-faults : {w′ : List ℕ} {r′ : Registers} → p .ok ≡ false → Done fault w₁ (stepped r (r .height)) w′ r′ → Stepped pre body w r w′ r′
-  pace-faults o d = record { good = d .good; does = d .does ∙ t .fails o; keeps = d .keeps ∙ t .keeps; counted = d .counted }
-
--- ---- a run, some steps at a time
 
 -- the step is the same whatever `ok` says
 pub quiet : {pre body w w′ : List ℕ} {r r′ : Registers} → Stepped pre body w r w′ r′ → Stepped pre body w r w′ (record { height = r′ .height; depth = r′ .depth; used = r′ .used; steps = r′ .steps; errors = r′ .errors; skipping = r′ .skipping; ok = false })
@@ -130,3 +167,14 @@ run-onward {R} {code} {w} {w′} {r} {r′} last inv d =
     let k = r′ .steps - r .steps in
     let z : last - r .steps ≡ k + (last - r′ .steps) = omega (arith, d .some, d .within) in
     rw (d .does) (sym (run-both code k (last - r′ .steps) (abs w r))) ∙ (rw z at inv)
+
+-- ---- a run that is over
+
+module _ {R : State} (pre body : List ℕ) (n : ℕ) (w : List ℕ) (r : Registers) (inv : run n (both pre body) (abs w r) ≡ R) where
+  pub run-out : n ≤ 0 → abs w r ≡ R
+  unfolding run
+  run-out h = let z : n ≡ 0 = omega arith in rw z at inv
+
+  pub run-ended : 0 < n → r .depth ≡ 0 → abs w r ≡ R
+  unfolding run ended contextsOf
+  run-ended h e = let k : n ≡ suc (n - 1) = omega arith in rw e (rw (k, e) at inv)

@@ -1,3 +1,2 @@
--- The laws, lowest first. Assumes nothing.
-pub mod Stepping
+-- The laws. Assumes nothing.
 pub mod Leading

@@ -22,7 +22,7 @@ use Rattle.machine.specs.Operators.{arityOf, effectOf}
 use Rattle.machine.specs.Operand.{asOperator}
 use Rattle.machine.specs.Ops.Call.{called, callEffect}
 use Rattle.machine.specs.Contexts.{above, fault, settle}
-use Rattle.machine.specs.Engine.{call, does}
+use Rattle.machine.specs.Engine.{call}
 use Rattle.machine.specs.Step.{execute, executed, begunIn, begun}
 use Rattle.operands.proofs.Reading.{no-operator}
 use Rattle.machine.proofs.Value.{the-type}
@@ -33,7 +33,7 @@ use Rattle.state.proofs.Trying.{trying, failed}
 use Rattle.effects.proofs.Acting.{is-acts, by-call}
 use Rattle.effects.proofs.Executing.{plain-few, plain-done, plain-fails}
 use Rattle.sprints.specs.Swift.{origin, stepped}
-use Rattle.sprints.proofs.Swiftly.{by-number}
+use Rattle.sprints.proofs.Swiftly.{by-number, faults}
 use Rattle.rides.specs.Rides.{Paced}
 
 -- ---- DO
@@ -82,9 +82,6 @@ module _ {w w₁ w₂ : List ℕ} {r s p : Registers} (code : Code) (x : Literal
       let z : abs w₂ (stepped r (r .height)) ≡ abs w₁ s = rw (t .back o, be .registers) in
       record { good = d .good; does = d .does ∙ ap fault z ∙ (rw (began, ← e)); keeps = d .keeps ∙ (t .keeps ∙ be .keeps); counted = d .counted }
 
-pub settles : {w : List ℕ} {r : Registers} → Busy w r → Good w r × (r .errors < r .steps)
-settles b = (record { room = b .room; stack-fits = b .stack-fits; depth-fits = b .depth-fits; cells-fit = b .cells-fit; frames-fit = b .frames-fit; errors-fit = omega (arith, b .errors-fit) }, b .errors-fit)
-
 -- bytes are those of some code
 codeOf : ℕ → List ℕ → Code
 codeOf zero b = b ∷ []
@@ -96,9 +93,6 @@ some-code zero b = refl
 some-code (suc n) b = some-code n b
 
 -- a step that has failed may recover
-pub faults : {f : State → Option State} {w w₁ w₂ : List ℕ} {r s p : Registers} (n : ℕ) → Begun n w r w₁ s → Tried f w₁ s w₂ p → p .ok ≡ false → Good w₂ (stepped r (r .height)) × (r .errors < r .steps + 1)
-faults n be t o = let b = be .busy in rw (t .back o) (settles (rw (be .registers) at b))
-
 pub faults-within : {w w₁ w₂ b : List ℕ} {r s p : Registers} (f : Code → State → Option State) (n o : ℕ) → Begun n w r w₁ s → ((code : Code) → b ≡ bytesOf code o → Tried (f code) w₁ s w₂ p) → p .ok ≡ false → Good w₂ (stepped r (r .height)) × (r .errors < r .steps + 1)
 faults-within {b} f n o be t k = faults n be (t (codeOf o b) (some-code o b)) k
 

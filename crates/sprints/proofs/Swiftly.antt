@@ -521,3 +521,13 @@ none-run code n s = let z : n - n ≡ 0 = omega arith in rw z
 -- the bounds hold whatever `ok` says
 pub good-as : {w : List ℕ} {r : Registers} (b : Bool) → Good w r → Good w (record { height = r .height; depth = r .depth; used = r .used; steps = r .steps; errors = r .errors; skipping = r .skipping; ok = b })
 good-as b g = record { room = g .room; stack-fits = g .stack-fits; depth-fits = g .depth-fits; cells-fit = g .cells-fit; frames-fit = g .frames-fit; errors-fit = g .errors-fit }
+
+-- ---- after a step
+
+-- what was done may settle
+pub settles : {w : List ℕ} {r : Registers} → Busy w r → Good w r × (r .errors < r .steps)
+settles b = (record { room = b .room; stack-fits = b .stack-fits; depth-fits = b .depth-fits; cells-fit = b .cells-fit; frames-fit = b .frames-fit; errors-fit = omega (arith, b .errors-fit) }, b .errors-fit)
+
+-- a step that has failed may recover
+pub faults : {f : State → Option State} {w w₁ w₂ : List ℕ} {r s p : Registers} (n : ℕ) → Begun n w r w₁ s → Tried f w₁ s w₂ p → p .ok ≡ false → Good w₂ (stepped r (r .height)) × (r .errors < r .steps + 1)
+faults n be t o = let b = be .busy in rw (t .back o) (settles (rw (be .registers) at b))

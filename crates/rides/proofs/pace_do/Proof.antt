@@ -1,4 +1,5 @@
-use Rattle.rides.proofs.Calling.{faults, paced-settles, paced-faults}
+use Rattle.sprints.proofs.Swiftly.{faults}
+use Rattle.rides.proofs.Calling.{paced-settles, paced-faults}
 use borrow.Author.Needs.{needs}
 use Rattle.rides.proofs.pace_do.Statement.{statement}
 use Rattle.rides.proofs.pace_do.Tie as tie

@@ -1,4 +1,5 @@
-use Rattle.rides.proofs.Calling.{settles, paced-fails}
+use Rattle.sprints.proofs.Swiftly.{settles}
+use Rattle.rides.proofs.Calling.{paced-fails}
 use borrow.Author.Needs.{needs}
 use Rattle.rides.proofs.pace_fault.Statement.{statement}
 use Rattle.rides.proofs.pace_fault.Tie as tie

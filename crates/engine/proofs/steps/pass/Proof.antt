@@ -1,6 +1,6 @@
-use Rattle.engine.proofs.Leading.{stands-now, legible-then, quiet, after-inv, after-led, led-all}
+use Rattle.engine.proofs.Leading.{here-at, unmark-step, skip-step, still-skips, legible-then, quiet, after-inv, after-led, led-all}
 use Rattle.sprints.proofs.Swiftly.{none-run}
-use Rattle.engine.proofs.Stepping.{here-at, unmark-step, skip-step, still-skips, done-same, stepped-same}
+use Rattle.paces.proofs.Pacing.{stands-now, done-same, stepped-same}
 use Rattle.origins.proofs.ByOrigin.{bytes-short, ahead-fits}
 use Rattle.state.specs.Layout.{Good, abs, aside}
 use Rattle.names.specs.Names.{both}

@@ -8,9 +8,8 @@ use Rattle.machine.specs.Step.{run}
 use Rattle.names.specs.Names.{both}
 use Rattle.state.specs.Layout.{abs, aside, Good}
 use Rattle.origins.specs.Bodies.{Noting}
-use Rattle.engine.proofs.Stepping.{run-out, run-ended}
 use Rattle.machine.proofs.Legible.{Legible}
-use Rattle.engine.proofs.Leading.{legible-then, run-whole, run-onward}
+use Rattle.engine.proofs.Leading.{legible-then, run-whole, run-onward, run-out, run-ended}
 use Rattle.engine.proofs.steps.run_noting.Statement.{statement}
 use Rattle.engine.proofs.steps.run_noting.Tie as tie
 

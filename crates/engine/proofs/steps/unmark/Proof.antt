@@ -1,6 +1,6 @@
 use mathlib.Core.Path.{refl}
-use Rattle.sprints.proofs.Swiftly.{is-unmark}
-use Rattle.rides.proofs.Calling.{faults, paced-settles, paced-faults}
+use Rattle.sprints.proofs.Swiftly.{is-unmark, faults}
+use Rattle.rides.proofs.Calling.{paced-settles, paced-faults}
 use borrow.Author.Needs.{needs}
 use Rattle.engine.proofs.steps.unmark.Statement.{statement}
 use Rattle.engine.proofs.steps.unmark.Tie as tie

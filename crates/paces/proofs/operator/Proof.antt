@@ -1,9 +1,9 @@
 use Rattle.sprints.proofs.Swiftly.{is-unmark}
-use Rattle.engine.proofs.Stepping.{tried-same, busy-same}
+use Rattle.paces.proofs.Pacing.{tried-same, busy-same}
 use mathlib.Core.Path.{sym, _∙_}
 use borrow.Author.Needs.{needs}
-use Rattle.engine.proofs.steps.operator.Statement.{statement}
-use Rattle.engine.proofs.steps.operator.Tie as tie
+use Rattle.paces.proofs.operator.Statement.{statement}
+use Rattle.paces.proofs.operator.Tie as tie
 
 pub operator-spec : {M : Type 1} → statement M
 operator-spec =

@@ -1,12 +1,12 @@
--- `steps::literal` meets its contract. Assumes nothing.
+-- `literal` meets its contract. Assumes nothing.
 use borrow.Author.Needs.{needs}
 use mathlib.Core.Path.{refl}
 use Rattle.origins.proofs.ByOrigin.{due-fits}
-use Rattle.engine.proofs.Stepping.{sized-due}
+use Rattle.paces.proofs.Pacing.{sized-due}
 use Rattle.sprints.proofs.Swiftly.{attempted, found-due}
-use Rattle.engine.proofs.Leading.{bytes-fit}
-use Rattle.engine.proofs.steps.literal.Statement.{statement}
-use Rattle.engine.proofs.steps.literal.Tie as tie
+use Rattle.paces.proofs.Pacing.{bytes-fit}
+use Rattle.paces.proofs.literal.Statement.{statement}
+use Rattle.paces.proofs.literal.Tie as tie
 
 pub literal-spec : {M : Type 1} → statement M
 literal-spec =

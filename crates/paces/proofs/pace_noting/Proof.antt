@@ -1,9 +1,9 @@
--- `steps::pace_noting` meets its contract. Assumes nothing.
+-- `pace_noting` meets its contract. Assumes nothing.
 use borrow.Author.Needs.{needs}
 use mathlib.Core.Path.{refl}
-use Rattle.engine.proofs.Leading.{stands-now, ready-now, pace-settles, pace-recovers, pace-faults}
-use Rattle.engine.proofs.steps.pace_noting.Statement.{statement}
-use Rattle.engine.proofs.steps.pace_noting.Tie as tie
+use Rattle.paces.proofs.Pacing.{stands-now, ready-now, pace-settles, pace-recovers, pace-faults}
+use Rattle.paces.proofs.pace_noting.Statement.{statement}
+use Rattle.paces.proofs.pace_noting.Tie as tie
 
 pub pace-noting-spec : {M : Type 1} → statement M
 pace-noting-spec =

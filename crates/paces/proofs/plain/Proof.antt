@@ -1,11 +1,11 @@
--- `steps::plain` meets its contract. Assumes nothing.
+-- `plain` meets its contract. Assumes nothing.
 use borrow.Author.Needs.{needs}
 use mathlib.Core.Path.{refl}
 use Rattle.state.proofs.Stacking.{tops-fit}
 use Rattle.effects.proofs.Executing.{busy-lower, small-value, plain-few, plain-done}
 use Prim.Native.Nat.{_-_}
-use Rattle.engine.proofs.steps.plain.Statement.{statement}
-use Rattle.engine.proofs.steps.plain.Tie as tie
+use Rattle.paces.proofs.plain.Statement.{statement}
+use Rattle.paces.proofs.plain.Tie as tie
 
 pub plain-spec : {M : Type 1} → statement M
 plain-spec =

@@ -1,13 +1,13 @@
--- `steps::pace` meets its contract. Assumes nothing.
+-- `pace` meets its contract. Assumes nothing.
 use borrow.Author.Needs.{needs}
 use native.Mathlib.Omega.{arith}
 use Rattle.origins.proofs.ByOrigin.{ends-fit}
-use Rattle.engine.proofs.Stepping.{done-same, stepped-same}
+use Rattle.paces.proofs.Pacing.{done-same, stepped-same}
 use Rattle.sprints.proofs.Swiftly.{attempted}
-use Rattle.rides.proofs.Calling.{faults}
-use Rattle.engine.proofs.Leading.{ready-now, pace-settles, pace-faults}
-use Rattle.engine.proofs.steps.pace.Statement.{statement}
-use Rattle.engine.proofs.steps.pace.Tie as tie
+use Rattle.sprints.proofs.Swiftly.{faults}
+use Rattle.paces.proofs.Pacing.{ready-now, pace-settles, pace-faults}
+use Rattle.paces.proofs.pace.Statement.{statement}
+use Rattle.paces.proofs.pace.Tie as tie
 
 pub pace-spec : {M : Type 1} → statement M
 pace-spec =

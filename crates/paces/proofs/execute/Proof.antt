@@ -1,10 +1,10 @@
--- `steps::execute` meets its contract. Assumes nothing.
+-- `execute` meets its contract. Assumes nothing.
 use borrow.Author.Needs.{needs}
 use Rattle.sprints.proofs.Swiftly.{by-figure, by-name}
-use Rattle.engine.proofs.Stepping.{by-text, by-plain, by-holder, sized-holder}
+use Rattle.paces.proofs.Pacing.{by-text, by-plain, by-holder, sized-holder}
 use Prim.Native.Nat.{_-_}
-use Rattle.engine.proofs.steps.execute.Statement.{statement}
-use Rattle.engine.proofs.steps.execute.Tie as tie
+use Rattle.paces.proofs.execute.Statement.{statement}
+use Rattle.paces.proofs.execute.Tie as tie
 
 pub execute-spec : {M : Type 1} → statement M
 execute-spec =
