@@ -17,7 +17,7 @@ here c = sym (c .before .before .before .piece-at .ensures) ∙ c .before .start
 
 begun : (c : tie.After-known-told) → let a = c .before .before .before .before .before .before .args in let f = c .before .start .given .0 .0 in let m = c .before .start .given .0 .1 .0 in
     (a .o + m ≤ length (a .text .now)) × (f + m ≤ length (a .s .now)) × FitsText (length (a .text .now)) (a .o + m) (continuations (a .s .now) (f + m))
-begun c = let a = c .before .before .before .before .before .before .args in first-fits (a .s .now) (a .at) (length (a .text .now)) (a .o) (c .before .before .before .before .before .before .pre .1) (here c)
+begun c = let start = c .before .before .before .before .before .before in let a = start .args in first-fits (a .s .now) (a .at) (length (a .text .now)) (a .o) (start .pre .1) (here c)
 
 pub copy-text-spec : {M : Type 1} → statement M
 copy-text-spec =
@@ -25,11 +25,11 @@ copy-text-spec =
     (tie.spec
     (λ c κs. search needs)
     (λ c. search needs)
-    (λ c. let a = c .before .before .before .before .before .args in absurd (not-missing (a .s .now) (a .at) (length (a .text .now)) (a .o) (c .before .before .before .before .before .pre .1) (sym (c .before .before .piece-at .ensures) ∙ c .enum-told .given .1)))
+    (λ c. let start = c .before .before .before .before .before in let a = start .args in absurd (not-missing (a .s .now) (a .at) (length (a .text .now)) (a .o) (start .pre .1) (sym (c .before .before .piece-at .ensures) ∙ c .enum-told .given .1)))
     (λ c. search needs)
     (λ c κs. let w = begun (c .before) in (w .0, w .1))
     (λ c. omega (arith, begun (c .before .before .before .before) .1))
     (λ c. omega (arith, begun (c .before .before .before .before .before) .0))
     (λ c κs. let a = c .before .before .before .before .before .before .before .before .before .before .before .args in let g = c .before .before .before .before .before .before .start .given .0 in subst (λ (n : ℕ). FitsText n (a .o + g .1 .0) (continuations (a .s .now) (g .0 + g .1 .0))) (sym (c .before .before .before .put-part .kept .1 .0)) (begun (c .before .before .before .before .before) .2))
     (λ c. search needs)
-    (λ c. let a = c .before .before .before .before .before .before .before .before .before .before .before .before .before .before .args in text-whole (a .s .now) (a .at) (length (a .text .now)) (a .o) (c .before .before .before .before .before .before .before .before .before .before .before .before .before .before .pre .1) (here (c .before .before .before .before .before .before .before .before)) (shown (a .lower)) (shows (a .lower)) (a .text .now) (c .before .before .before .before .before .before .put-part .ensures) (c .before .before .copy-from .ensures)))
+    (λ c. let start = c .before .before .before .before .before .before .before .before .before .before .before .before .before .before in let a = start .args in text-whole (a .s .now) (a .at) (length (a .text .now)) (a .o) (start .pre .1) (here (c .before .before .before .before .before .before .before .before)) (shown (a .lower)) (shows (a .lower)) (a .text .now) (c .before .before .before .before .before .before .put-part .ensures) (c .before .before .copy-from .ensures)))

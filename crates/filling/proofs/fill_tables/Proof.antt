@@ -39,7 +39,7 @@ fill-tables-spec =
     μ-loop
     loop-holds
     (λ c κs. tt)
-    (λ c κs. filled-room (c .before .before .before .before .loop .inv .2) (c .before .before .before .before .before .before .before .before .pre .0) (c .before .before .before .before .before .before .before .before .pre .1) (omega arith) (c .before .before .read-token .ensures))
+    (λ c κs. let start = c .before .before .before .before .before .before .before .before in filled-room (c .before .before .before .before .loop .inv .2) (start .pre .0) (start .pre .1) (omega arith) (c .before .before .read-token .ensures))
     (λ c. omega (arith, turned (c .before .before .before .before) .1))
     (λ c. let o = c .before .before .before .before .before .before .before .before .before .loop in (o .inv .0 - 1, o .inv .1 ++ added (c .before .before .before .before .before .before .before .before .before .before .before .before .before .args .s .now) (o .at) (c .before .before .before .before .before .before .before .read-token .result), turned (c .before .before .before .before) .0))
     (λ c. c .before .loop .inv .2 .list-same)

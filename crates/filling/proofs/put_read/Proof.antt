@@ -10,7 +10,7 @@ use Rattle.filling.proofs.put_read.Statement.{statement}
 use Rattle.filling.proofs.put_read.Tie as tie
 
 known : (c : tie.After-slice-known2) → let a = c .before .before .before .args in Told (a .s .now) (a .at) (a .t)
-known c = let a = c .before .before .before .args in subst (Told (a .s .now) (a .at)) (sym (c .before .before .before .pre .is-there)) (token-says (a .s .now) (a .at) (λ i. omega (arith, c .before .before .shared-slice-known .given i)) (omega (arith, c .before .before .before .pre .inside)))
+known c = let start = c .before .before .before in let a = start .args in subst (Told (a .s .now) (a .at)) (sym (start .pre .is-there)) (token-says (a .s .now) (a .at) (λ i. omega (arith, c .before .before .shared-slice-known .given i)) (omega (arith, start .pre .inside)))
 
 name : (c : tie.After-known-told2) → let a = c .before .before .before .before .before .before .args in IsText (a .s .now) (a .at) (a .t) true 2 (c .before .t2 .given .0 .0) (c .before .t2 .given .0 .1 .0)
 name c = let a = c .before .before .before .before .before .before .args in identifier-is (a .s .now) (a .at) (a .t) (known (c .before .before .before)) (c .before .t2 .given .1)

@@ -12,9 +12,9 @@ is-name-spec =
     tie.close
     (tie.spec
     (λ c. let a = c .before .before .args in sym (name-none Lowered (a .x .now) (a .start) (a .len) (c .before .before .pre) (c .if1 .taken)))
-    (λ c. let a = c .before .before .before .args in sym (name-long Lowered (a .x .now) (a .start) (a .len) (c .before .before .before .pre) (c .if2 .taken)))
+    (λ c. let start = c .before .before .before in let a = start .args in sym (name-long Lowered (a .x .now) (a .start) (a .len) (start .pre) (c .if2 .taken)))
     (λ c. search needs)
     (λ c κs. search needs)
-    (λ c. let a = c .before .before .before .before .before .before .args in sym (name-first Lowered (a .x .now) (a .start) (a .len) (c .before .before .before .before .before .before .pre) _ (c .before .before .before .before .if1 .left) (c .before .is-letter .ensures) (not-true _ (c .if3 .taken))))
+    (λ c. let start = c .before .before .before .before .before .before in let a = start .args in sym (name-first Lowered (a .x .now) (a .start) (a .len) (start .pre) _ (c .before .before .before .before .if1 .left) (c .before .is-letter .ensures) (not-true _ (c .if3 .taken))))
     (λ c κs. search needs)
-    (λ c. let a = c .before .before .before .before .before .before .before .args in name-rest Lowered (a .x .now) (a .start) (a .len) (c .before .before .before .before .before .before .before .pre) _ _ (c .before .before .before .before .before .if1 .left) (c .before .before .before .before .if2 .left) (c .before .before .is-letter .ensures) (not-false _ (c .before .if3 .left)) (c .all-obey .ensures)))
+    (λ c. let start = c .before .before .before .before .before .before .before in let a = start .args in name-rest Lowered (a .x .now) (a .start) (a .len) (start .pre) _ _ (c .before .before .before .before .before .if1 .left) (c .before .before .before .before .if2 .left) (c .before .before .is-letter .ensures) (not-false _ (c .before .if3 .left)) (c .all-obey .ensures)))

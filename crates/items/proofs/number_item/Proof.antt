@@ -12,5 +12,5 @@ number-item-spec =
     (λ c. λ x. judged-left x _ _ (ne-eqb _ _ (c .if1 .taken)))
     (λ c κs. search needs)
     (λ c κs. search needs)
-    (λ c. λ x. judged-yes x _ _ _ _ (eq-eqb _ _ (c .before .before .before .if1 .left)) (fraction-is (c .before .before .before .before .args .a) (c .before .before .before .before .args .b) _ _ (c .before .before .size-of-word .ensures) (c .before .is-fraction .ensures)) (c .if2 .taken) (number-here x _ _))
-    (λ c. λ x. judged-right x _ _ _ (fraction-is (c .before .before .before .before .args .a) (c .before .before .before .before .args .b) _ _ (c .before .before .size-of-word .ensures) (c .before .is-fraction .ensures)) (c .if2 .left)))
+    (λ c. let start = c .before .before .before .before in λ x. judged-yes x _ _ _ _ (eq-eqb _ _ (c .before .before .before .if1 .left)) (fraction-is (start .args .a) (start .args .b) _ _ (c .before .before .size-of-word .ensures) (c .before .is-fraction .ensures)) (c .if2 .taken) (number-here x _ _))
+    (λ c. let start = c .before .before .before .before in λ x. judged-right x _ _ _ (fraction-is (start .args .a) (start .args .b) _ _ (c .before .before .size-of-word .ensures) (c .before .is-fraction .ensures)) (c .if2 .left)))

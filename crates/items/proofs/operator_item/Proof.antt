@@ -14,6 +14,6 @@ operator-item-spec =
     (tie.spec
     (λ c. λ x. judged-left x _ _ (no-left _ _ (ne-eqb _ _ (c .if1 .taken))))
     (λ c. λ x. judged-left x _ (operator (c .before .before .args .a)) (no-right (eqb (c .before .before .args .b) 0) _ (ne-eqb _ _ (c .if2 .taken))))
-    (λ c. λ x. operator-large x _ (c .before .before .before .args .b) (c .before .before .before .args .c) (c .if3 .taken))
+    (λ c. let start = c .before .before .before in λ x. operator-large x _ (start .args .b) (start .args .c) (c .if3 .taken))
     (λ c. search needs)
     (λ c. λ x. operator-here x _ _ _ (c .if3 .left) (c .before .before .if1 .left) (c .before .if2 .left)))

@@ -19,5 +19,5 @@ text-item-spec =
     (λ c. let a = c .before .before .before .before .before .args in judged-left _ _ _ (end-bad (a .x .now) (a .a) (a .b) (a .c) (c .if4 .taken)))
     (λ c κs. search needs)
     (λ c κs. search needs)
-    (λ c. let a = c .before .before .before .before .before .before .before .before .args in judged-yes (a .x .now) _ (textToken (a .named) (slice (a .a) (a .a + a .b) (a .x .now))) _ _ (place-good (a .x .now) (a .a) (a .b) (a .c) (c .before .before .before .before .before .before .if1 .left) (c .before .before .before .before .before .if2 .left) (c .before .before .before .before .if3 .left) (c .before .before .before .if4 .left)) (c .before .before .is-text .ensures) (c .before .if5 .taken) (c .text-at .ensures (a .x .now) (c .before .before .before .if4 .left, omega arith)))
+    (λ c. let at-if4 = c .before .before .before in let a = at-if4 .before .before .before .before .before .args in judged-yes (a .x .now) _ (textToken (a .named) (slice (a .a) (a .a + a .b) (a .x .now))) _ _ (place-good (a .x .now) (a .a) (a .b) (a .c) (at-if4 .before .before .before .if1 .left) (at-if4 .before .before .if2 .left) (at-if4 .before .if3 .left) (at-if4 .if4 .left)) (c .before .before .is-text .ensures) (c .before .if5 .taken) (c .text-at .ensures (a .x .now) (at-if4 .if4 .left, omega arith)))
     (λ c. judged-right _ _ _ _ (c .before .is-text .ensures) (c .if5 .left)))

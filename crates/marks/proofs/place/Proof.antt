@@ -19,7 +19,7 @@ place-spec =
     (λ c. search needs)
     (λ c κs. search needs)
     (λ c. omega (arith, few _ _ (c .before .before .before .before .before .before .before .before .pre) (c .before .before .before .before .before .has .ensures) (c .before .before .before .before .if1 .taken)))
-    (λ c κs. (omega (arith, few _ _ (c .before .before .before .before .before .before .before .before .pre) (c .before .before .before .before .before .has .ensures) (c .before .before .before .before .if1 .taken)), omega (arith, few _ _ (c .before .before .before .before .before .before .before .before .pre) (c .before .before .before .before .before .has .ensures) (c .before .before .before .before .if1 .taken))))
+    (λ c κs. let at-if1 = c .before .before .before .before in let at-has = at-if1 .before in let start = at-has .before .before .before in (omega (arith, few _ _ (start .pre) (at-has .has .ensures) (at-if1 .if1 .taken)), omega (arith, few _ _ (start .pre) (at-has .has .ensures) (at-if1 .if1 .taken))))
     (λ c. search needs)
     (λ c. search needs)
     (λ c. search (needs, place-yes))

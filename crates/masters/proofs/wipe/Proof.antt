@@ -11,4 +11,4 @@ wipe-spec =
     (tie.spec
     (λ c κs. search needs)
     (λ c. search needs)
-    (λ c. c .before .before .clear .ensures ∙ clear-all (c .before .before .before .before .before .args .w .now) (c .before .before .before .before .before .pre)))
+    (λ c. let start = c .before .before .before .before .before in c .before .before .clear .ensures ∙ clear-all (start .args .w .now) (start .pre)))

@@ -12,4 +12,4 @@ letter-of-spec =
     (λ c. rw (c .before .if1 .taken) (c .letter .ensures))
     (λ c κs. rw (c .if2 .taken) at (c .before .before .before .before .pre))
     (λ c. rw (c .before .if2 .taken) (c .letter2 .ensures))
-    (λ c. let a = c .before .before .before .before .args in absurd (omega (arith, c .before .before .before .before .pre, no-data (a .pre .now) (a .body .now) (a .origin) (c .before .if1 .left) (c .if2 .left) (a .start)))))
+    (λ c. let start = c .before .before .before .before in let a = start .args in absurd (omega (arith, start .pre, no-data (a .pre .now) (a .body .now) (a .origin) (c .before .if1 .left) (c .if2 .left) (a .start)))))

@@ -13,10 +13,10 @@ literal-spec =
     tie.close
     (tie.spec
     (λ c κs. search needs)
-    (λ c κs. due-fits _ _ _ (bytes-fit _ _ _ (c .before .before .before .before .before .before .before .before .before .before .before .before .before .pre .0) (c .before .before .before .before .before .before .before .before .before .before .before .before .before .pre .1)) (c .before .before .before .before .before .due-of .ensures .0))
+    (λ c κs. let start = c .before .before .before .before .before .before .before .before .before .before .before .before .before in due-fits _ _ _ (bytes-fit _ _ _ (start .pre .0) (start .pre .1)) (c .before .before .before .before .before .due-of .ensures .0))
     (λ c κs. search needs)
-    (λ c κs. (c .before .before .before .begin .ensures .busy, c .before .before .before .before .before .before .before .before .before .before .before .before .before .before .before .before .before .before .pre .1, sized-due _ _ _ (bytes-fit _ _ _ (c .before .before .before .before .before .before .before .before .before .before .before .before .before .before .before .before .before .before .pre .0) (c .before .before .before .before .before .before .before .before .before .before .before .before .before .before .before .before .before .before .pre .1)) (c .before .before .before .before .before .before .before .before .before .before .due-of .ensures .0)))
+    (λ c κs. let start = c .before .before .before .before .before .before .before .before .before .before .before .before .before .before .before .before .before .before in (c .before .before .before .begin .ensures .busy, start .pre .1, sized-due _ _ _ (bytes-fit _ _ _ (start .pre .0) (start .pre .1)) (c .before .before .before .before .before .before .before .before .before .before .due-of .ensures .0)))
     (λ c. search needs)
     (λ c. search needs)
     (λ c. search needs)
-    (λ c. (attempted (c .before .before .before .before .before .before .before .before .before .before .before .before .before .before .before .before .before .before .before .before .before .pre .0) _ _ (c .before .before .before .before .before .before .before .word .ensures) (c .before .before .before .before .before .before .begin .ensures) _ (found-due _ _ _ (c .before .before .before .before .before .before .before .before .before .before .before .before .before .due-of .ensures .0) refl) (c .before .before .execute .ensures), c .before .before .before .before .before .before .before .before .before .before .before .before .before .due-of .ensures .1)))
+    (λ c. let at-due-of = c .before .before .before .before .before .before .before .before .before .before .before .before .before in (attempted (at-due-of .before .before .before .before .before .before .before .before .pre .0) _ _ (c .before .before .before .before .before .before .before .word .ensures) (c .before .before .before .before .before .before .begin .ensures) _ (found-due _ _ _ (at-due-of .due-of .ensures .0) refl) (c .before .before .execute .ensures), at-due-of .due-of .ensures .1)))

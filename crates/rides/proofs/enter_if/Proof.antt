@@ -11,7 +11,7 @@ enter-if-spec =
     tie.close
     (tie.spec
     (λ c κs. search needs)
-    (λ c κs. place-fits _ _ _ (c .before .past-comments .ensures) (omega (arith, c .before .before .before .before .pre .2, c .before .before .before .before .pre .3)) (c .before .before .before .before .pre .1))
+    (λ c κs. let start = c .before .before .before .before in place-fits _ _ _ (c .before .past-comments .ensures) (omega (arith, start .pre .2, start .pre .3)) (start .pre .1))
     (λ c κs. search needs)
     (λ c κs. search needs)
     (λ c. search needs)

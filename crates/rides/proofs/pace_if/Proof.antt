@@ -10,7 +10,7 @@ pace-if-spec =
     tie.close
     (tie.spec
     (λ c κs. search needs)
-    (λ c κs. place-fits _ _ _ (c .before .past-comments .ensures) (c .before .before .before .before .pre .5) (c .before .before .before .before .pre .3))
+    (λ c κs. let start = c .before .before .before .before in place-fits _ _ _ (c .before .past-comments .ensures) (start .pre .5) (start .pre .3))
     (λ c κs. search needs)
     (λ c. search needs)
     (λ c. search needs)

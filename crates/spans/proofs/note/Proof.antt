@@ -22,6 +22,6 @@ note-spec =
     (λ c κs. search needs)
     (λ c. search needs)
     (λ c. search needs)
-    (λ c. let a = c .before .before .before .args in let i = 2 * (a .at % 64) in omega (arith, length-set (a .memo .now) i (c .before .word .result), c .before .before .before .pre .0))
+    (λ c. let start = c .before .before .before in let a = start .args in let i = 2 * (a .at % 64) in omega (arith, length-set (a .memo .now) i (c .before .word .result), start .pre .0))
     (λ c. search needs)
     returns)

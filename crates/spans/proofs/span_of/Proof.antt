@@ -13,4 +13,4 @@ span-of-spec =
     (λ c. search needs)
     (λ c. search needs)
     (λ c. search needs)
-    (λ c. (sym (seen-ends (c .before .before .before .before .before .pre .1) (c .before .seen .ensures (c .if1 .left))), c .before .before .before .before .before .pre .1)))
+    (λ c. let start = c .before .before .before .before .before in (sym (seen-ends (start .pre .1) (c .before .seen .ensures (c .if1 .left))), start .pre .1)))

@@ -23,7 +23,7 @@ literal-spec =
     (λ c. search needs)
     (λ c κs. search needs)
     (λ c. search needs)
-    (λ c κs. (c .before .before .before .before .before .before .pre .0, c .before .before .before .before .before .before .pre .1, sequence-shown _ _ _ (c .before .enum-told .given .1) (c .before .before .before .form .ensures), c .before .before .before .before .before .before .pre .5))
+    (λ c κs. let start = c .before .before .before .before .before .before in (start .pre .0, start .pre .1, sequence-shown _ _ _ (c .before .enum-told .given .1) (c .before .before .before .form .ensures), start .pre .5))
     (λ c. search needs)
     (λ c κs. search needs)
     (λ c. search needs)

@@ -24,7 +24,7 @@ sequence-spec =
     (λ c κs. search needs)
     (λ c κs. search needs)
     (λ c κs. search needs)
-    (λ c κs. omega (arith, name-inside _ _ _ refl _ _ (name-there _ _ (c .before .before .before .before .before .before .before .before .before .before .before .before .before .pre .2 .1) (c .before .before .before .before .before .before .before .before .before .before .before .before .before .pre .3 .0) _ (c .before .before .extent .ensures) (sym (c .before .before .before .before .low52 .ensures) ∙ c .before .before .before .if3 .taken)), c .before .before .before .before .before .before .before .before .before .before .before .before .before .pre .0))
+    (λ c κs. let start = c .before .before .before .before .before .before .before .before .before .before .before .before .before in omega (arith, name-inside _ _ _ refl _ _ (name-there _ _ (start .pre .2 .1) (start .pre .3 .0) _ (c .before .before .extent .ensures) (sym (c .before .before .before .before .low52 .ensures) ∙ c .before .before .before .if3 .taken)), start .pre .0))
     (λ c κs. search needs)
     (λ c κs. search needs)
     (λ c. search needs)

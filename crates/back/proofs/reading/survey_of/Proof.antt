@@ -44,7 +44,7 @@ survey-of-spec =
     (λ c κs. tt)
     (λ c κs. tt)
     (λ c. search needs)
-    (λ c. let s = c .before .before .before .before .before .before .before .before .args .s .now in let at = c .before .before .before .before .before .before .loop .at in survey-stop (c .before .before .before .before .before .before .loop .inv .2) (omega arith) (subst (Steps s at (tokenAt s at)) (c .before .refusal .given .1) (stepped (c .before .before .before))))
+    (λ c. let at-loop = c .before .before .before .before .before .before in let s = at-loop .before .before .args .s .now in let at = at-loop .loop .at in survey-stop (at-loop .loop .inv .2) (omega arith) (subst (Steps s at (tokenAt s at)) (c .before .refusal .given .1) (stepped (c .before .before .before))))
     (λ c. search needs)
     (λ c. omega (arith, c .before .before .before .before .before .before .loop .inv .2 .count-in, gone c .few))
     (λ c. omega (arith, c .before .before .before .before .before .before .loop .inv .2 .texts-in, gone c .later, gone c .inside))

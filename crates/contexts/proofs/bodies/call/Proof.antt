@@ -11,6 +11,6 @@ call-spec =
     (λ c. search needs)
     (λ c κs. search needs)
     (λ c κs. search needs)
-    (λ c κs. (c .before .before .before .before .pre .0, call-takes 0 0 0 _ _ _ (c .before .before .before .before .pre .0) (c .before .before .before .before .pre .1) (c .before .before .word .ensures) (c .before .last-word .ensures)))
+    (λ c κs. let start = c .before .before .before .before in (start .pre .0, call-takes 0 0 0 _ _ _ (start .pre .0) (start .pre .1) (c .before .before .word .ensures) (c .before .last-word .ensures)))
     (λ c. search needs)
-    (λ c. call-on _ _ _ _ _ _ (c .before .before .before .before .before .before .before .pre .0) (c .before .before .before .before .before .before .before .pre .1) (c .before .before .before .before .before .word .ensures) (c .before .before .before .before .last-word .ensures) (c .before .before .enter-on .ensures)))
+    (λ c. let start = c .before .before .before .before .before .before .before in call-on _ _ _ _ _ _ (start .pre .0) (start .pre .1) (c .before .before .before .before .before .word .ensures) (c .before .before .before .before .last-word .ensures) (c .before .before .enter-on .ensures)))

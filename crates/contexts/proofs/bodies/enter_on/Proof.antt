@@ -16,4 +16,4 @@ enter-on-spec =
     (λ c κs. search needs)
     (λ c. search needs)
     (λ c. search needs)
-    (λ c. enter-made _ _ _ _ (c .before .before .before .before .before .before .before .pre .0) (c .before .before .before .before .before .before .before .pre .1) (c .before .before .before .before .before .if1 .left) _ (c .before .before .before .word .ensures) (c .before .before .put .ensures) refl))
+    (λ c. let start = c .before .before .before .before .before .before .before in enter-made _ _ _ _ (start .pre .0) (start .pre .1) (c .before .before .before .before .before .if1 .left) _ (c .before .before .before .word .ensures) (c .before .before .put .ensures) refl))

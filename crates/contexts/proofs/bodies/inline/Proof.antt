@@ -12,6 +12,6 @@ inline-spec =
     (λ c. search needs)
     (λ c κs. search needs)
     (λ c κs. search needs)
-    (λ c κs. (c .before .before .before .before .before .before .before .pre, inline-takes 0 0 _ _ _ (c .before .before .before .before .before .before .before .pre) (c .before .before .before .get .ensures) (c .last-word .ensures)))
+    (λ c κs. let start = c .before .before .before .before .before .before .before in (start .pre, inline-takes 0 0 _ _ _ (start .pre) (c .before .before .before .get .ensures) (c .last-word .ensures)))
     (λ c. search needs)
     (λ c. inline-on _ _ _ _ _ (c .before .before .before .before .before .before .before .before .before .before .pre) (c .before .before .before .before .before .before .get .ensures) (c .before .before .before .last-word .ensures) (c .before .before .enter-on .ensures)))

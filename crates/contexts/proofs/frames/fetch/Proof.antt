@@ -20,7 +20,7 @@ fetch-spec =
     (λ c κs. search needs)
     (λ c. search needs)
     (λ c. search needs)
-    (λ c κs. omega (arith, c .before .before .before .before .before .before .before .before .pre .room, c .before .before .before .before .before .before .before .before .pre .cells-fit, c .size .ensures .0, c .before .before .before .before .before .before .if1 .left, frame-inside _ _ _ (c .before .before .before .before .before .before .before .before .pre) (c .before .before .before .get .ensures)))
+    (λ c κs. let start = c .before .before .before .before .before .before .before .before in omega (arith, start .pre .room, start .pre .cells-fit, c .size .ensures .0, c .before .before .before .before .before .before .if1 .left, frame-inside _ _ _ (start .pre) (c .before .before .before .get .ensures)))
     (λ c κs. search needs)
     (λ c κs. search needs)
     (λ c. search needs)

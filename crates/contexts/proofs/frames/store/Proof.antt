@@ -27,4 +27,4 @@ store-spec =
     (λ c. search needs)
     (λ c κs. search needs)
     (λ c. search needs)
-    (λ c. store-after (c .before .before .before .before .before .before .before .own .ensures) refl (store-yes (c .before .before .before .before .before .before .before .before .before .before .before .before .before .before .before .before .args .j) (c .before .before .before .before .before .before .before .own .ensures .busy) _ (c .before .before .before .before .before .before .before .before .before .before .before .before .get .ensures ∙ sym (c .before .before .before .before .before .before .before .own .ensures .stands _ (omega (arith, c .before .before .before .before .before .before .before .before .before .before .before .before .before .before .before .before .pre .stack-fits, c .before .before .before .before .before .before .before .before .before .before .before .before .before .before .if1 .left)))) (c .before .before .before .before .before .before .before .before .before .before .before .before .before .before .if1 .left) (c .before .before .before .before .before .before .before .before .before .before .if2 .left) (c .before .before .before .before .before .before .before .own .ensures .own) (c .before .before .before .before .before .before .before .before .before .if3 .left) (c .before .before .put .ensures) refl)))
+    (λ c. let at-own = c .before .before .before .before .before .before .before in let at-if1 = at-own .before .before .before .before .before .before .before in let start = at-if1 .before .before in store-after (at-own .own .ensures) refl (store-yes (start .args .j) (at-own .own .ensures .busy) _ (at-own .before .before .before .before .before .get .ensures ∙ sym (at-own .own .ensures .stands _ (omega (arith, start .pre .stack-fits, at-if1 .if1 .left)))) (at-if1 .if1 .left) (at-own .before .before .before .if2 .left) (at-own .own .ensures .own) (at-own .before .before .if3 .left) (c .before .before .put .ensures) refl)))

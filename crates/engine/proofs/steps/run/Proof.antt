@@ -10,6 +10,6 @@ run-spec =
     (tie.spec
     (λ c. search needs)
     (λ c. search needs)
-    (λ c κs. (c .before .before .before .before .before .before .pre .0, c .before .before .before .before .before .before .pre .1, c .before .before .before .before .before .before .pre .2, record { in-pre = none-noted _; in-body = none-noted _ }, c .before .before .before .before .before .before .pre .3))
+    (λ c κs. let start = c .before .before .before .before .before .before in (start .pre .0, start .pre .1, start .pre .2, record { in-pre = none-noted _; in-body = none-noted _ }, start .pre .3))
     (λ c. search needs)
     (λ c. search needs))

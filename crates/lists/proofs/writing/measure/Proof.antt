@@ -27,5 +27,5 @@ measure-spec =
     (λ c κs. tt)
     (λ c. omega arith)
     (λ c. omega arith)
-    (λ c. let a = c .before .before .before .before .before .before .before .before .args in let o = c .before .before .before .before .before .loop in measuring-on (a .list .now) (a .text .now) (o .at) (o .total) (o .inv) (omega arith) (c .before .before .before .item-at .result) (c .before .before .before .item-at .ensures) _ (c .before .before .size-of .ensures .0) (c .before .if1 .left) _ (c .cap .ensures))
+    (λ c. let at-item-at = c .before .before .before in let a = at-item-at .before .before .before .before .before .args in let o = at-item-at .before .before .loop in measuring-on (a .list .now) (a .text .now) (o .at) (o .total) (o .inv) (omega arith) (at-item-at .item-at .result) (at-item-at .item-at .ensures) _ (c .before .before .size-of .ensures .0) (c .before .if1 .left) _ (c .cap .ensures))
     (λ c. let a = c .before .before .before .before .args in let o = c .before .loop in measuring-end (a .list .now) (a .text .now) (o .at) (o .total) (o .inv) (omega arith)))

@@ -17,7 +17,7 @@ abbrev μ-loop : tie.MeasureT-loop
 
 returns : tie.Need-returns Inv-loop μ-loop
 unfolding header
-returns c = let a = c .before .before .before .before .before .before .before .before .before .before .args in let o = c .before .loop in putting-end (a .list .now) (a .text .now) (c .before .before .before .before .copy .last .0) (o .out) (o .at) (o .o) (o .inv) (omega arith) (a .out .now) (c .before .before .before .before .copy .ensures)
+returns c = let at-copy = c .before .before .before .before in let a = at-copy .before .before .before .before .before .before .args in let o = c .before .loop in putting-end (a .list .now) (a .text .now) (at-copy .copy .last .0) (o .out) (o .at) (o .o) (o .inv) (omega arith) (a .out .now) (at-copy .copy .ensures)
 
 pub put-all-spec : {M : Type 1} → statement M
 put-all-spec =
@@ -27,11 +27,11 @@ put-all-spec =
     μ-loop
     (λ c. refl)
     (λ c κs. let s = c .before .before .before .before .before in (fits-start (listed (s .args .list .now) (s .args .text .now)) (length (s .args .out .now)) (s .pre), omega arith))
-    (λ c. putting-start (c .before .before .before .before .before .before .before .before .args .list .now) (c .before .before .before .before .before .before .before .before .args .text .now) _)
+    (λ c. let start = c .before .before .before .before .before .before .before .before in putting-start (start .args .list .now) (start .args .text .now) _)
     (λ c κs. omega arith)
-    (λ c κs. let s = c .before .before .before .before .before .before .before .before .before .before .before .before in let a = s .args in let o = c .before .before .before .loop in putting-room (a .list .now) (a .text .now) (c .before .before .before .before .before .before .copy .last .0) (o .out) (o .at) (o .o) (o .inv) (omega arith) (length (a .out .now)) (s .pre) (c .item-at .result) (c .item-at .ensures) (omega (arith, c .before .before .before .before .before .before .copy .kept)))
+    (λ c κs. let at-copy = c .before .before .before .before .before .before in let s = at-copy .before .before .before .before .before .before in let a = s .args in let o = c .before .before .before .loop in putting-room (a .list .now) (a .text .now) (at-copy .copy .last .0) (o .out) (o .at) (o .o) (o .inv) (omega arith) (length (a .out .now)) (s .pre) (c .item-at .result) (c .item-at .ensures) (omega (arith, at-copy .copy .kept)))
     (λ c. omega arith)
     (λ c. omega arith)
-    (λ c. let s = c .before .before .before .before .before .before .before .before .before .before .before .before .before .before .before in let a = s .args in let o = c .before .before .before .before .before .before .loop in putting-on (a .list .now) (a .text .now) (c .before .before .before .before .before .before .before .before .before .copy .last .0) (o .out) (o .at) (o .o) (o .inv) (omega arith) (length (a .out .now)) (s .pre) (c .before .before .before .item-at .result) (c .before .before .before .item-at .ensures) _ _ (c .before .before .put-item .ensures) (omega (arith, c .before .before .put-item .kept)))
+    (λ c. let at-item-at = c .before .before .before in let s = at-item-at .before .before .before .before .before .before .before .before .before .before .before .before in let a = s .args in let o = at-item-at .before .before .before .loop in putting-on (a .list .now) (a .text .now) (at-item-at .before .before .before .before .before .before .copy .last .0) (o .out) (o .at) (o .o) (o .inv) (omega arith) (length (a .out .now)) (s .pre) (at-item-at .item-at .result) (at-item-at .item-at .ensures) _ _ (c .before .before .put-item .ensures) (omega (arith, c .before .before .put-item .kept)))
     (λ c. omega (arith, c .before .loop .inv .kept, c .before .before .before .before .copy .kept))
     returns)

@@ -15,6 +15,6 @@ put-rational-spec =
     (λ c κs. search needs)
     (λ c. search needs)
     (λ c κs. let s = c .before .before .before in (room-first _ (headBytes 4 (c .before .half-of .result + c .before .half-of .result)) _ (rational-is (s .args .num) (s .args .den) _ (s .fits .num .fits) (c .before .half-of .ensures)) (s .args .out .now) (s .args .o) (s .pre), omega arith))
-    (λ c κs. let s = c .before .before .before .before .before .before .before in room-then _ _ _ (rational-is (s .args .num) (s .args .den) _ (s .fits .num .fits) (c .before .before .before .before .before .half-of .ensures)) (s .args .out .now) (s .args .o) (s .pre) _ _ (c .before .before .before .put-sequence-head .ensures) (c .before .before .before .put-sequence-head .kept .0))
+    (λ c κs. let at-put-sequence-head = c .before .before .before in let s = at-put-sequence-head .before .before .before .before in room-then _ _ _ (rational-is (s .args .num) (s .args .den) _ (s .fits .num .fits) (at-put-sequence-head .before .before .half-of .ensures)) (s .args .out .now) (s .args .o) (s .pre) _ _ (at-put-sequence-head .put-sequence-head .ensures) (at-put-sequence-head .put-sequence-head .kept .0))
     (λ c. search needs)
     (λ c. let s = c .before .before .before .before .before .before .before .before .before .before in put-then _ _ _ (rational-is (s .args .num) (s .args .den) _ (s .fits .num .fits) (c .before .before .before .before .before .before .before .before .half-of .ensures)) _ _ _ _ _ _ (c .before .before .before .before .before .before .put-sequence-head .ensures) (c .before .before .put-halves .ensures)))

@@ -18,6 +18,6 @@ put-sequence-head-spec =
     (λ c. let s = c .before .before .before .before .before .before in rw (head-short (s .args .kind) (s .args .len) (c .before .before .before .before .if1 .taken)) (c .before .before .put-pair .ensures))
     (λ c. search needs)
     (λ c κs. let s = c .before .before .before in room-first _ ((224 + s .args .kind) ∷ []) (bytesOf 3 (s .args .len)) (head-long (s .args .kind) (s .args .len) (c .before .if1 .left)) (s .args .out .now) (s .args .o) (s .pre .0))
-    (λ c κs. let s = c .before .before .before .before .before .before .before in room-then _ ((224 + s .args .kind) ∷ []) (bytesOf 3 (s .args .len)) (head-long (s .args .kind) (s .args .len) (c .before .before .before .before .before .if1 .left)) (s .args .out .now) (s .args .o) (s .pre .0) _ _ (c .before .before .before .put-byte .ensures) (c .before .before .before .put-byte .kept .0))
+    (λ c κs. let at-put-byte = c .before .before .before in let s = at-put-byte .before .before .before .before in room-then _ ((224 + s .args .kind) ∷ []) (bytesOf 3 (s .args .len)) (head-long (s .args .kind) (s .args .len) (at-put-byte .before .before .if1 .left)) (s .args .out .now) (s .args .o) (s .pre .0) _ _ (at-put-byte .put-byte .ensures) (at-put-byte .put-byte .kept .0))
     (λ c. search needs)
     (λ c. let s = c .before .before .before .before .before .before .before .before .before .before in put-then _ ((224 + s .args .kind) ∷ []) (bytesOf 3 (s .args .len)) (head-long (s .args .kind) (s .args .len) (c .before .before .before .before .before .before .before .before .if1 .left)) _ _ _ _ _ _ (c .before .before .before .before .before .before .put-byte .ensures) (c .before .before .put-bytes .ensures)))

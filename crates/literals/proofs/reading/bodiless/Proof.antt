@@ -12,4 +12,4 @@ bodiless-spec =
     (λ c κs. search needs)
     (λ c κs. search needs)
     (λ c. as-plain _ _ _ _ _ (c .before .before .before .before .pre .1) (c .before .enum-told .given .1) (c .found .ensures))
-    (λ c. as-none _ _ _ _ _ (c .before .before .before .pre .1) (c .before .match .keys2) (c .before .before .before .pre .0) (c .nothing .ensures)))
+    (λ c. let start = c .before .before .before in as-none _ _ _ _ _ (start .pre .1) (c .before .match .keys2) (start .pre .0) (c .nothing .ensures)))

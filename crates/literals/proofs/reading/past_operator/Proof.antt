@@ -12,7 +12,7 @@ past-operator-spec =
     (λ c κs. search needs)
     (λ c. search needs)
     (λ c. search needs)
-    (λ c κs. (c .before .before .before .before .before .pre .0, none-noted _, c .before .before .before .before .before .pre .1 (sym (c .before .before .before .role-of .ensures) ∙ c .before .enum-told .given .1)))
+    (λ c κs. let start = c .before .before .before .before .before in (start .pre .0, none-noted _, start .pre .1 (sym (c .before .before .before .role-of .ensures) ∙ c .before .enum-told .given .1)))
     (λ c κs. search needs)
     (λ c κs. search needs)
     (λ c. record { holds = λ _. (_, c .before .before .pass .ensures .0, c .past-comments .ensures); holds-none = λ f. absurd (f (sym (c .before .before .before .before .before .before .role-of .ensures) ∙ c .before .before .before .before .enum-told .given .1)) })

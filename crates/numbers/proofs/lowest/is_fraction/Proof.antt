@@ -15,11 +15,11 @@ returns-2 c = rw (le-leb (c .before .before .args .size) most (omega arith), lt-
 
 returns-3 : tie.Need-returns-3
 unfolding isFraction
-returns-3 c = rw (le-leb (c .before .before .before .args .size) most (omega arith), le-leb 1 (c .before .before .before .args .den) (omega arith), lt-leb (c .before .before .before .args .den) most (omega arith))
+returns-3 c = let start = c .before .before .before in rw (le-leb (start .args .size) most (omega arith), le-leb 1 (start .args .den) (omega arith), lt-leb (start .args .den) most (omega arith))
 
 returns-4 : tie.Need-returns-4
 unfolding isFraction
-returns-4 c = rw (c .gcd .ensures, le-leb (c .before .before .before .before .args .size) most (omega arith), le-leb 1 (c .before .before .before .before .args .den) (omega arith), le-leb (c .before .before .before .before .args .den) most (omega arith))
+returns-4 c = let start = c .before .before .before .before in rw (c .gcd .ensures, le-leb (start .args .size) most (omega arith), le-leb 1 (start .args .den) (omega arith), le-leb (start .args .den) most (omega arith))
 
 pub is-fraction-spec : {M : Type 1} → statement M
 is-fraction-spec =

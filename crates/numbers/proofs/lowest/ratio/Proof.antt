@@ -11,4 +11,4 @@ ratio-spec =
     (λ c κs. tt)
     (λ c κs. tt)
     (λ c κs. tt)
-    (λ c. c .ratio-of .ensures ∙ rw (c .before .of-signed2 .ensures .0, c .before .before .of-signed .ensures .0, toZ-ofZ (c .before .before .before .fits .n), toZ-ofZ (c .before .before .before .fits .d))))
+    (λ c. let start = c .before .before .before in c .ratio-of .ensures ∙ rw (c .before .of-signed2 .ensures .0, c .before .before .of-signed .ensures .0, toZ-ofZ (start .fits .n), toZ-ofZ (start .fits .d))))

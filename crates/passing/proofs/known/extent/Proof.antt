@@ -15,10 +15,10 @@ extent-spec =
     (tie.spec
     (λ c κs. search needs)
     (λ c. search needs)
-    (λ c. omega (arith, (let w : Inside (length (c .before .before .before .before .before .args .s .now)) (c .before .before .before .before .before .args .at) (Data (c .before .start .given .0 .0) (c .before .start .given .0 .1 .0)) = rw (← c .before .before .before .piece-at .ensures, c .before .start .given .1) at (inside (c .before .before .before .before .before .args .s .now) (c .before .before .before .before .before .args .at)) in w .1), (c .before .before .before .before .before .good)))
+    (λ c. let start = c .before .before .before .before .before in omega (arith, (let w : Inside (length (start .args .s .now)) (start .args .at) (Data (c .before .start .given .0 .0) (c .before .start .given .0 .1 .0)) = rw (← c .before .before .before .piece-at .ensures, c .before .start .given .1) at (inside (start .args .s .now) (start .args .at)) in w .1), (start .good)))
     (λ c κs. search needs)
-    (λ c. extends-one _ _ _ _ (sym (c .before .before .before .before .before .piece-at .ensures) ∙ c .before .before .before .start .given .1) (let w : Inside (length (c .before .before .before .before .before .before .before .args .s .now)) (c .before .before .before .before .before .before .before .args .at) (Data (c .before .before .before .start .given .0 .0) (c .before .before .before .start .given .0 .1 .0)) = rw (← c .before .before .before .before .before .piece-at .ensures, c .before .before .before .start .given .1) at (inside (c .before .before .before .before .before .before .before .args .s .now) (c .before .before .before .before .before .before .before .args .at)) in w .1) (sym (c .before .is-continued-at .ensures) ∙ not-true _ (c .if1 .taken)) _ refl refl)
-    (λ c κs. (let w : Inside (length (c .before .before .before .before .before .before .before .args .s .now)) (c .before .before .before .before .before .before .before .args .at) (Data (c .before .before .before .start .given .0 .0) (c .before .before .before .start .given .0 .1 .0)) = rw (← c .before .before .before .before .before .piece-at .ensures, c .before .before .before .start .given .1) at (inside (c .before .before .before .before .before .before .before .args .s .now) (c .before .before .before .before .before .before .before .args .at)) in w .1))
+    (λ c. let at-start = c .before .before .before in let at-piece-at = at-start .before .before in let start = at-piece-at .before .before in extends-one _ _ _ _ (sym (at-piece-at .piece-at .ensures) ∙ at-start .start .given .1) (let w : Inside (length (start .args .s .now)) (start .args .at) (Data (at-start .start .given .0 .0) (at-start .start .given .0 .1 .0)) = rw (← at-piece-at .piece-at .ensures, at-start .start .given .1) at (inside (start .args .s .now) (start .args .at)) in w .1) (sym (c .before .is-continued-at .ensures) ∙ not-true _ (c .if1 .taken)) _ refl refl)
+    (λ c κs. let at-start = c .before .before .before in let start = at-start .before .before .before .before in (let w : Inside (length (start .args .s .now)) (start .args .at) (Data (at-start .start .given .0 .0) (at-start .start .given .0 .1 .0)) = rw (← at-start .before .before .piece-at .ensures, at-start .start .given .1) at (inside (start .args .s .now) (start .args .at)) in w .1))
     (λ c. search needs)
     (λ c. search needs)
     (λ c. search needs)

@@ -7,7 +7,7 @@ use Rattle.pieces.proofs.sequences.piece_at.Statement.{statement}
 use Rattle.pieces.proofs.sequences.piece_at.Tie as tie
 
 add-start-2 : tie.Need-add-start-2
-add-start-2 c = omega (arith, c .length-bytes .ensures, length-bounds (getD (c .before .before .before .args .s .now) (c .before .before .before .args .at) 0))
+add-start-2 c = let start = c .before .before .before in omega (arith, c .length-bytes .ensures, length-bounds (getD (start .args .s .now) (start .args .at) 0))
 
 returns : tie.Need-returns
 returns c =
@@ -15,7 +15,7 @@ returns c =
     sym (piece-is (a .s .now) (a .at) (c .before .length-bytes .result) _ (c .before .length-bytes .ensures) refl ∙ within-missing (a .s .now) _ _ (omega arith))
 
 value-after-requires : tie.Need-value-after-requires
-value-after-requires c κs = (omega (arith, c .before .length-bytes .ensures, length-bounds (getD (c .before .before .before .before .args .s .now) (c .before .before .before .before .args .at) 0)), omega arith, omega arith)
+value-after-requires c κs = let start = c .before .before .before .before in (omega (arith, c .before .length-bytes .ensures, length-bounds (getD (start .args .s .now) (start .args .at) 0)), omega arith, omega arith)
 
 returns-2 : tie.Need-returns-2
 returns-2 c =

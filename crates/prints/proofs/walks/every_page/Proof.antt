@@ -28,7 +28,7 @@ every-page-spec =
     (λ c. search needs)
     (λ c. search needs)
     (λ c. search needs)
-    (λ c κs. row-asks (c .before .before .before .before .before .before .before .before .before .before .before .before .args .s .now) _ _ _ _ _ _ _ _ _ (c .before .before .before .before .before .before .before .before .before .before .before .before .pre .0) (c .before .before .before .before .loop-test .taken) (c .before .before .before .before .before .loop .inv) (c .before .before .before .before .before .before .before .before .before .before .before .before .pre .2) (c .before .before .before .before .before .before .before .before .before .before .before .before .pre .3) (c .before .before .before .before .before .before .before .before .before .before .before .before .pre .4))
+    (λ c κs. let start = c .before .before .before .before .before .before .before .before .before .before .before .before in row-asks (start .args .s .now) _ _ _ _ _ _ _ _ _ (start .pre .0) (c .before .before .before .before .loop-test .taken) (c .before .before .before .before .before .loop .inv) (start .pre .2) (start .pre .3) (start .pre .4))
     (λ c. search needs)
     (λ c. search needs)
     (λ c. walk-goes _ _ _ _ _ _ _ _ _ _ (c .before .before .before .before .before .before .before .before .before .before .before .before .before .before .before .before .before .pre .0) (c .before .before .before .before .before .before .before .before .before .loop-test .taken) (c .before .before .before .before .before .before .before .before .before .before .loop .inv) _ _ (c .before .before .before .before .page-row .ensures) (search needs) (search needs))

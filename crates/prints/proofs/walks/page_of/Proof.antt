@@ -13,6 +13,6 @@ page-of-spec =
     (λ c. search needs)
     (λ c. search needs)
     (λ c. search needs)
-    (λ c κs. (ready-part _ _ _ _ _ _ (c .before .before .before .before .before .pre .2) (c .before .before .before .before .before .pre .0), search needs, c .before .before .before .before .before .pre .6, whole-part _ _ _ (c .before .before .before .before .before .pre .2) (c .before .before .before .before .before .pre .7), whole-part _ _ _ (c .before .before .before .before .before .pre .4) (c .before .before .before .before .before .pre .8)))
+    (λ c κs. let start = c .before .before .before .before .before in (ready-part _ _ _ _ _ _ (start .pre .2) (start .pre .0), search needs, start .pre .6, whole-part _ _ _ (start .pre .2) (start .pre .7), whole-part _ _ _ (start .pre .4) (start .pre .8)))
     (λ c. search needs)
-    (λ c. page-of-parts (c .before .before .before .before .before .before .before .before .args .s .now) _ _ _ _ _ _ _ _ _ (c .before .before .before .before .before .before .before .before .pre .2) (c .before .before .before .before .before .before .before .before .pre .4) (c .before .before .page .ensures)))
+    (λ c. let start = c .before .before .before .before .before .before .before .before in page-of-parts (start .args .s .now) _ _ _ _ _ _ _ _ _ (start .pre .2) (start .pre .4) (c .before .before .page .ensures)))

@@ -13,6 +13,6 @@ preamble-of-spec =
     (λ c. search needs)
     (λ c. search needs)
     (λ c. search needs)
-    (λ c κs. (c .before .before .before .before .before .pre .0, search needs, search needs, c .before .before .before .before .before .pre .4, whole-part _ _ _ (c .before .before .before .before .before .pre .2) (c .before .before .before .before .before .pre .5)))
+    (λ c κs. let start = c .before .before .before .before .before in (start .pre .0, search needs, search needs, start .pre .4, whole-part _ _ _ (start .pre .2) (start .pre .5)))
     (λ c. search needs)
     (λ c. preamble-of-part _ _ _ _ _ _ (c .before .before .before .before .before .before .before .before .pre .2) (c .before .before .preamble .ensures)))

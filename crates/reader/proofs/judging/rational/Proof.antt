@@ -40,4 +40,4 @@ rational-spec =
     extended-requires-2
     (λ c κs. search needs)
     (λ c κs. search needs)
-    (λ c. c .number-read .ensures ∙ ap (numberRead (c .before .before .before .before .before .before .args .at) (c .before .before .before .before .before .before .args .next)) (quotient (c .before))))
+    (λ c. let start = c .before .before .before .before .before .before in c .number-read .ensures ∙ ap (numberRead (start .args .at) (start .args .next)) (quotient (c .before))))

@@ -26,4 +26,4 @@ make-vec-lu-spec =
     (λ c. search needs)
     (λ c. (no-card _ _ (c .before .before .cardinal .ensures .0) (c .enum-told .given .1), tt))
     (λ c. (no-card _ _ (c .before .before .cardinal2 .ensures .0) (c .enum-told2 .given .1) ∙ is-card _ _ (c .before .before .before .before .before .before .cardinal .ensures .0) (c .before .before .before .before .u .given .1), tt))
-    (λ c. (when-so _ _ (le-leb _ _ (c .if1 .left)) ∙ is-card _ _ (c .before .before .before .before .cardinal2 .ensures .0) (c .before .before .l .given .1) ∙ is-card _ _ (c .before .before .before .before .before .before .before .before .cardinal .ensures .0) (c .before .before .before .before .before .before .u .given .1), omega (arith, card-most (c .before .before .before .before .cardinal2 .ensures .1) (c .before .before .l .given .1)))))
+    (λ c. let at-cardinal2 = c .before .before .before .before in (when-so _ _ (le-leb _ _ (c .if1 .left)) ∙ is-card _ _ (at-cardinal2 .cardinal2 .ensures .0) (c .before .before .l .given .1) ∙ is-card _ _ (at-cardinal2 .before .before .before .before .cardinal .ensures .0) (at-cardinal2 .before .before .u .given .1), omega (arith, card-most (at-cardinal2 .cardinal2 .ensures .1) (c .before .before .l .given .1)))))

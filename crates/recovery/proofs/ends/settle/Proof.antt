@@ -38,6 +38,6 @@ settle-spec =
     (λ c κs. search needs)
     (λ c. search needs)
     (λ c. search needs)
-    (λ c. (search (needs, paid-good), search needs, search needs, search (needs, aside-put), search needs, leave-pay _ _ (c .before .before .before .before .before .before .before .before .before .before .before .before .before .before .loop .inv .5) _ (c .before .before .before .before .before .before .before .before .before .before .get .ensures) (c .before .before .before .before .before .before .before .before .before .before .before .before .if1 .taken) (c .before .before .before .before .before .before .before .before .if2 .left) _ _ (c .before .before .before .before .before .before .before .before .before .before .before .before .before .before .loop .inv .0) (c .before .before .before .before .before .before .if3 .left) (c .before .before .before .before .before .if4 .left) (c .before .before .before .zero .ensures) (c .before .before .put .ensures) refl))
+    (λ c. let at-loop = c .before .before .before .before .before .before .before .before .before .before .before .before .before .before in (search (needs, paid-good), search needs, search needs, search (needs, aside-put), search needs, leave-pay _ _ (at-loop .loop .inv .5) _ (c .before .before .before .before .before .before .before .before .before .before .get .ensures) (c .before .before .before .before .before .before .before .before .before .before .before .before .if1 .taken) (c .before .before .before .before .before .before .before .before .if2 .left) _ _ (at-loop .loop .inv .0) (c .before .before .before .before .before .before .if3 .left) (c .before .before .before .before .before .if4 .left) (c .before .before .before .zero .ensures) (c .before .before .put .ensures) refl))
     (λ c. search needs)
     (λ c. record { good = search needs; does = search (needs, leave-all); keeps = search needs; counted = search needs }))

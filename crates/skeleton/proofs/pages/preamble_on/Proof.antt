@@ -9,7 +9,7 @@ use Rattle.skeleton.proofs.pages.preamble_on.Statement.{statement}
 use Rattle.skeleton.proofs.pages.preamble_on.Tie as tie
 
 returns : tie.Need-returns
-returns c = preamble-read _ _ (c .before .before .before .before .before .before .before .before .before .before .before .before .before .before .before .args .places .now) _ (c .before .before .before .before .before .before .before .before .before .before .before .before .before .before .before .args .at) _ _ (c .before .before .before .before .before .before .before .before .before .before .before .before .before .before .before .pre) (sym (c .before .before .before .before .before .before .before .before .before .before .before .before .body .ensures) ∙ c .before .before .before .before .before .before .before .before .before .before .next .given .1) (rw (c .before .before .before .before .before .before .before .past-comments .ensures) at (c .before .before .before .before .before .before .note .ensures)) (c .before .before .pages .ensures)
+returns c = let start = c .before .before .before .before .before .before .before .before .before .before .before .before .before .before .before in preamble-read _ _ (start .args .places .now) _ (start .args .at) _ _ (start .pre) (sym (c .before .before .before .before .before .before .before .before .before .before .before .before .body .ensures) ∙ c .before .before .before .before .before .before .before .before .before .before .next .given .1) (rw (c .before .before .before .before .before .before .before .past-comments .ensures) at (c .before .before .before .before .before .before .note .ensures)) (c .before .before .pages .ensures)
 
 returns-2 : tie.Need-returns-2
 returns-2 c = rw (c .refused .ensures) (preamble-bad _ _ _ _ _ (sym (c .before .before .before .before .body .ensures) ∙ c .before .before .refusal .given .1))

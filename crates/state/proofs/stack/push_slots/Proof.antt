@@ -18,4 +18,4 @@ push-slots-spec =
     (λ c κs. search needs)
     (λ c. search needs)
     (λ c. search needs)
-    (λ c. two-yes _ _ (c .before .before .before .before .before .before .before .before .before .before .pre .0) _ _ _ (omega (arith, c .before .before .before .before .before .before .before .before .if1 .left)) (refl, c .before .before .before .before .before .before .before .before .before .before .pre .1) (refl, c .before .before .before .before .before .before .before .before .before .before .pre .2) (c .before .before .before .before .before .before .put .ensures) (c .before .before .put2 .ensures) refl))
+    (λ c. let start = c .before .before .before .before .before .before .before .before .before .before in two-yes _ _ (start .pre .0) _ _ _ (omega (arith, c .before .before .before .before .before .before .before .before .if1 .left)) (refl, start .pre .1) (refl, start .pre .2) (c .before .before .before .before .before .before .put .ensures) (c .before .before .put2 .ensures) refl))

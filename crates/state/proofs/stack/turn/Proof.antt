@@ -13,7 +13,7 @@ turn-spec =
     (λ c κs. search needs)
     (λ c κs. search needs)
     (λ c. omega (arith, few _ _ (c .before .before .before .before .before .before .pre) (c .before .before .before .has .ensures) (c .before .before .if1 .taken)))
-    (λ c κs. (omega (arith, few _ _ (c .before .before .before .before .before .before .pre) (c .before .before .before .has .ensures) (c .before .before .if1 .taken)), omega (arith, few _ _ (c .before .before .before .before .before .before .pre) (c .before .before .before .has .ensures) (c .before .before .if1 .taken)), omega (arith, few _ _ (c .before .before .before .before .before .before .pre) (c .before .before .before .has .ensures) (c .before .before .if1 .taken))))
+    (λ c κs. let at-has = c .before .before .before in let start = at-has .before .before .before in (omega (arith, few _ _ (start .pre) (at-has .has .ensures) (c .before .before .if1 .taken)), omega (arith, few _ _ (start .pre) (at-has .has .ensures) (c .before .before .if1 .taken)), omega (arith, few _ _ (start .pre) (at-has .has .ensures) (c .before .before .if1 .taken))))
     (λ c. search needs)
     (λ c. search (needs, turn-yes))
     (λ c κs. search needs)

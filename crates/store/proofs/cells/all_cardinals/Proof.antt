@@ -21,13 +21,13 @@ all-cardinals-spec =
     Inv-loop
     μ-loop
     (λ c. refl)
-    (λ c. let o = c .before .before .loop in sym (none-due (slots (c .before .before .before .before .args .w .now)) (c .before .before .before .before .args .used) (o .k) (o .left) (c .if1 .taken)) ∙ o .inv)
+    (λ c. let start = c .before .before .before .before in let o = c .before .before .loop in sym (none-due (slots (start .args .w .now)) (start .args .used) (o .k) (o .left) (c .if1 .taken)) ∙ o .inv)
     (λ c. search needs)
     (λ c κs. search needs)
     (λ c κs. search needs)
     (λ c. search needs)
     (λ c. search needs)
     (λ c. search needs)
-    (λ c. rw (add-one (c .before .before .before .before .before .loop .k)) (sym (cardinal-on (slots (c .before .before .before .before .before .before .before .args .w .now)) (c .before .before .before .before .before .before .before .args .used) (c .before .before .before .before .before .loop .k) (c .before .before .before .before .before .loop .left) (c .before .before .before .before .loop-test .taken) (c .before .is-cardinal .result) (rw (c .before .before .get .ensures) at (c .before .is-cardinal .ensures)) (c .before .before .before .if1 .left) (c .if2 .taken)) ∙ c .before .before .before .before .before .loop .inv))
-    (λ c. sym (cardinal-not (slots (c .before .before .before .before .before .before .before .args .w .now)) (c .before .before .before .before .before .before .before .args .used) (c .before .before .before .before .before .loop .k) (c .before .before .before .before .before .loop .left) (c .before .before .before .before .loop-test .taken) (c .before .is-cardinal .result) (rw (c .before .before .get .ensures) at (c .before .is-cardinal .ensures)) (c .before .before .before .if1 .left) (c .if2 .left)) ∙ c .before .before .before .before .before .loop .inv)
-    (λ c. let o = c .before .loop in sym (cells-over (slots (c .before .before .before .args .w .now)) (c .before .before .before .args .used) (o .k) (o .left) (c .loop-test .left)) ∙ o .inv))
+    (λ c. let at-loop = c .before .before .before .before .before in let start = at-loop .before .before in rw (add-one (at-loop .loop .k)) (sym (cardinal-on (slots (start .args .w .now)) (start .args .used) (at-loop .loop .k) (at-loop .loop .left) (c .before .before .before .before .loop-test .taken) (c .before .is-cardinal .result) (rw (c .before .before .get .ensures) at (c .before .is-cardinal .ensures)) (c .before .before .before .if1 .left) (c .if2 .taken)) ∙ at-loop .loop .inv))
+    (λ c. let at-loop = c .before .before .before .before .before in let start = at-loop .before .before in sym (cardinal-not (slots (start .args .w .now)) (start .args .used) (at-loop .loop .k) (at-loop .loop .left) (c .before .before .before .before .loop-test .taken) (c .before .is-cardinal .result) (rw (c .before .before .get .ensures) at (c .before .is-cardinal .ensures)) (c .before .before .before .if1 .left) (c .if2 .left)) ∙ at-loop .loop .inv)
+    (λ c. let start = c .before .before .before in let o = c .before .loop in sym (cells-over (slots (start .args .w .now)) (start .args .used) (o .k) (o .left) (c .loop-test .left)) ∙ o .inv))

@@ -22,7 +22,7 @@ compose-spec =
     (λ c κs. search needs)
     (λ c. search needs)
     (λ c. search needs)
-    (λ c κs. (omega (arith, c .before .before .before .before .before .before .before .before .pre .room, c .before .before .before .before .before .before .before .before .pre .cells-fit, c .size .ensures .0, frame-inside _ _ _ (c .before .before .before .before .before .before .before .before .pre) (c .before .before .before .get .ensures)), omega (arith, c .before .before .before .before .before .before .before .before .pre .room, c .before .before .before .before .before .if2 .left)))
+    (λ c κs. let start = c .before .before .before .before .before .before .before .before in (omega (arith, start .pre .room, start .pre .cells-fit, c .size .ensures .0, frame-inside _ _ _ (start .pre) (c .before .before .before .get .ensures)), omega (arith, start .pre .room, c .before .before .before .before .before .if2 .left)))
     (λ c κs. search needs)
     (λ c κs. search needs)
     (λ c. search needs)

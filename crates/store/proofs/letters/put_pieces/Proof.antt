@@ -37,6 +37,6 @@ put-pieces-spec =
     (λ c. let w = piece-fits letters-show (c .before .before .before .before .before .before .before .before .before .loop .inv .3) (c .before .before .before .before .before .before .before .before .before .before .before .before .pre) (sym (c .before .before .before .before .before .before .before .next-piece .ensures) ∙ c .before .before .before .before .before .from .given .1) in omega (arith, w .1))
     (λ c. let w = piece-fits letters-show (c .before .before .before .before .before .before .before .before .before .loop .inv .3) (c .before .before .before .before .before .before .before .before .before .before .before .before .pre) (sym (c .before .before .before .before .before .before .before .next-piece .ensures) ∙ c .before .before .before .before .before .from .given .1) in omega (arith, room-back _ _ (w .2)))
     (λ c. let w = piece-fits letters-show (c .before .before .before .before .before .before .before .before .before .loop .inv .3) (c .before .before .before .before .before .before .before .before .before .before .before .before .pre) (sym (c .before .before .before .before .before .before .before .next-piece .ensures) ∙ c .before .before .before .before .before .from .given .1) in omega (arith, w .0, w .1))
-    (λ c. let i = c .before .before .before .before .before .before .before .before .before .loop .inv in let f : ℕ = c .before .before .before .before .before .from .given .0 .0 in (search needs, i .1 - 1, i .2 ++ slice f (f + c .before .before .before .before .before .from .given .0 .1 .0) (c .before .before .before .before .before .before .before .before .before .before .before .before .args .b .now), copied-next letters-show (i .3) (c .before .before .before .before .before .before .before .before .before .before .before .before .pre) (sym (c .before .before .before .before .before .before .before .next-piece .ensures) ∙ c .before .before .before .before .before .from .given .1) (sets-long (slots (c .before .before .before .before .before .before .before .before .before .loop .w)) _ (c .before .before .before .before .before .before .before .before .before .loop .q) (letterSlots (slice f (f + c .before .before .before .before .before .from .given .0 .1 .0) (c .before .before .before .before .before .before .before .before .before .before .before .before .args .b .now))) (c .before .before .put-piece .ensures)) (c .before .before .put-piece .ensures)))
+    (λ c. let at-from = c .before .before .before .before .before in let at-loop = at-from .before .before .before .before in let start = at-loop .before .before .before in let i = at-loop .loop .inv in let f : ℕ = at-from .from .given .0 .0 in (search needs, i .1 - 1, i .2 ++ slice f (f + at-from .from .given .0 .1 .0) (start .args .b .now), copied-next letters-show (i .3) (start .pre) (sym (at-from .before .before .next-piece .ensures) ∙ at-from .from .given .1) (sets-long (slots (at-loop .loop .w)) _ (at-loop .loop .q) (letterSlots (slice f (f + at-from .from .given .0 .1 .0) (start .args .b .now))) (c .before .before .put-piece .ensures)) (c .before .before .put-piece .ensures)))
     (λ c. search needs)
-    (λ c. copied-end letters-show (c .before .loop .inv .3) (c .before .before .before .before .pre) (none-left (c .before .before .before .before .args .b .now) (c .before .loop .at) (omega arith))))
+    (λ c. let start = c .before .before .before .before in copied-end letters-show (c .before .loop .inv .3) (start .pre) (none-left (start .args .b .now) (c .before .loop .at) (omega arith))))

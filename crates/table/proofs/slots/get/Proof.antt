@@ -21,4 +21,4 @@ get-spec =
     (λ c κs. search needs)
     (λ c. search needs)
     (λ c κs. search needs)
-    (λ c. (rw (c .get-word5 .ensures, c .before .get-word4 .ensures, c .before .before .get-word3 .ensures, c .before .before .before .get-word2 .ensures, c .before .before .before .before .get-word .ensures)) ∙ get-slot (c .before .before .before .before .before .before .args .w .now) (c .before .before .before .before .before .before .args .k) (omega arith)))
+    (λ c. let start = c .before .before .before .before .before .before in (rw (c .get-word5 .ensures, c .before .get-word4 .ensures, c .before .before .get-word3 .ensures, c .before .before .before .get-word2 .ensures, c .before .before .before .before .get-word .ensures)) ∙ get-slot (start .args .w .now) (start .args .k) (omega arith)))

@@ -15,4 +15,4 @@ put-spec =
     (λ c. search needs)
     (λ c κs. search needs)
     (λ c. search needs)
-    (λ c. ap slots (c .before .before .emit .ensures) ∙ put-slot (c .before .before .before .before .before .args .w .now) (c .before .before .before .before .before .args .k) (c .before .before .before .before .before .args .v) (record { kind = omega arith; a = omega arith; b = omega arith; c = omega arith; d = omega arith }) (omega arith)))
+    (λ c. let start = c .before .before .before .before .before in ap slots (c .before .before .emit .ensures) ∙ put-slot (start .args .w .now) (start .args .k) (start .args .v) (record { kind = omega arith; a = omega arith; b = omega arith; c = omega arith; d = omega arith }) (omega arith)))
