@@ -1,4 +1,4 @@
--- Steps of a run. In order: a literal passed over; skipping; several steps, and a run of them. Assumes nothing.
+-- Steps of a run. In order: a literal passed over; a run, some steps at a time; a run that is over. Assumes nothing.
 use Prim.Native.Nat.{ℕ, suc, _+_, _-_, _≤_, _<_}
 use native.Mathlib.Omega.{arith}
 use mathlib.Core.Path.{_≡_, refl, sym, ap, _∙_}
@@ -44,7 +44,7 @@ unmark-is (Text start) h = not-on h
 unmark-is (Plain n) h = unmark-by n (eqb n 192) refl h
 unmark-is (WithBody n start len) h = not-on h
 
--- a literal passed over
+-- the literal where the running body goes on, as skipping asks for it
 module _ (w : List ℕ) (r : Registers) (pre body b : List ℕ) (c : Place) (at n : ℕ) (a : Ahead)
     (here : (c .origin ≡ running (contextsOf (slots w) (r .depth)) .origin) × (c .start ≡ running (contextsOf (slots w) (r .depth)) .at)) (eb : b ≡ bytesOf (both pre body) (c .origin)) (ea : at ≡ c .start)
     (p : Passes (foundAt b at) a) where

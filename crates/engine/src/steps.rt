@@ -11,9 +11,9 @@ ghost use Rattle.state.specs.Layout.{abs, Good};
 ghost use Rattle.origins.specs.Bodies.{Short, Noting};
 ghost use Rattle.engine.specs.Steps.{Ran, Onward};
 ghost use Rattle.rides.specs.Rides.{Paced, Led};
-use paces::afresh;
 use spans::WORDS;
 use state::Registers;
+use state::afresh;
 
 // A step with UNMARK0, after which its body goes on at `next`.
 fn unmark(w: &mut [u8], r: Registers, next: usize) -> Registers

@@ -87,7 +87,7 @@ sized-due b at d h i = rw (i .literal) (sized (foundAt b at .literal) (length b)
 
 -- ---- a step
 
--- so it is with the bytes of the running body
+-- what a step with it asks for
 pub ready-now : {w : List ℕ} {r : Registers} (pre body b : List ℕ) (c : Place) (at : ℕ) → Good w r → 0 < r .depth → Executes (both pre body) (abs w r) → r .steps < 4294967295
     → (c .origin ≡ running (contextsOf (slots w) (r .depth)) .origin) × (c .start ≡ running (contextsOf (slots w) (r .depth)) .at) → b ≡ bytesOf (both pre body) (c .origin) → at ≡ c .start → Ready (both pre body) b at w r
 ready-now pre body b c at g runs x few here eb ea =

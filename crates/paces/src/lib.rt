@@ -1,6 +1,5 @@
 // A step with a literal that is not passed over: read, executed, and what follows. The bodies have been judged, and nothing in them is judged
 // again (DECISIONS, D77).
-ghost use mathlib.Core.Path.{_≡_};
 ghost use Prim.Native.Nat.{_<_};
 ghost use Rattle.machine.specs.declared.Literal.the-variants.{Plain};
 ghost use Rattle.machine.specs.Literal.{bytesOf};
@@ -15,6 +14,7 @@ ghost use Rattle.paces.specs.Paces.{SizedLiteral, Stepped};
 use machine::Literal;
 use machine::Op;
 use state::Registers;
+use state::afresh;
 
 // An operator without a body: the values that it pops must stand above the topmost mark.
 fn plain<'a>(w: &mut [u8], r: Registers, pre: &'a [u8], body: &'a [u8], n: u16) -> Registers
@@ -56,24 +56,7 @@ fn execute<'a>(w: &mut [u8], r: Registers, pre: &'a [u8], body: &'a [u8], x: Lit
     }
 }
 
-// ---- operators on ways of their own
-
-// The same registers, field by field, so that the compiler keeps them out of memory around a call.
-pub fn afresh(r: Registers) -> Registers
-    ensures { λ q. ⌜ q ≡ r ⌝ }
-{
-    Registers {
-        height: r.height,
-        depth: r.depth,
-        used: r.used,
-        steps: r.steps,
-        errors: r.errors,
-        skipping: r.skipping,
-        ok: r.ok,
-    }
-}
-
-// An operator without a body.
+// An operator without a body, those of four families in line (DECISIONS, D73), and UNMARK0.
 fn operator<'a>(w: &mut [u8], r: Registers, pre: &'a [u8], body: &'a [u8], n: u16) -> Registers
     requires { ⌜ Busy (now w) r × Short (now pre) (now body) ⌝ }
     ensures { λ q. ⌜ Tried (execute (both (now (pre .entry)) (now (body .entry))) (Plain n)) (now (w .entry)) r (now (w .exit)) q ⌝ }

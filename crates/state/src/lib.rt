@@ -1,6 +1,8 @@
 // The state of the machine in the lent table, and the operations on values and the stack; `contexts`, `recovery` and `store` have the
 // others that the engine is made of. Above these crates nothing knows where in the table a thing stands. How a value lies in a slot is
 // said by `Layout`; slots are made by the operations that push them.
+ghost use mathlib.Core.Path.{_≡_};
+
 pub mod stack; // the values above the topmost mark
 pub mod values; // a value read from a slot, a number put into one
 
@@ -14,6 +16,21 @@ pub struct Registers {
     pub errors: usize,
     pub skipping: bool,
     pub ok: bool,
+}
+
+// The same registers, field by field, so that the compiler keeps them out of memory around a call.
+pub fn afresh(r: Registers) -> Registers
+    ensures { λ q. ⌜ q ≡ r ⌝ }
+{
+    Registers {
+        height: r.height,
+        depth: r.depth,
+        used: r.used,
+        steps: r.steps,
+        errors: r.errors,
+        skipping: r.skipping,
+        ok: r.ok,
+    }
 }
 
 // A place in the bytes of an origin.
