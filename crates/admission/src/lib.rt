@@ -1,4 +1,6 @@
 // What is judged of a master, an allowance and the lent tables before anything runs.
+#![tactic(auto)]
+
 pub mod arguments; // numbers as they come from outside
 
 ghost use Rattle.std.specs.Prelude.{◌≡◌, ◌&&◌, ◌≤◌, leb, pos, length};

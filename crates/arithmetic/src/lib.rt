@@ -1,5 +1,7 @@
 // The operations of 2.4.9 on numbers, exact. Every operation takes every value of its types. In order: the parts of two numbers over a common
 // denominator; sum, difference, product, quotient; negative and size; the four roundings; MOD and REM; the order.
+#![tactic(auto)]
+
 ghost use Rattle.std.specs.Prelude.{◌≡◌, ◌*◌, ◌^◌, ◌<◌, ◌≤◌, ℤ, pos, nat_abs, ◌-ℤ◌, ◌*ℤ◌};
 ghost use Rattle.numbers.specs.Whole.{whole_of};
 ghost use Rattle.numbers.specs.Arith.{over, common, sum_of, difference_of, product_of, quotient_of, negative_of, size_of, whole_from, floor_of, ceiling_of, trunc_of, round_of, less_times, mod_of, rem_of, order_of};

@@ -1,5 +1,7 @@
 // Runs every case of the data file over the library, and says how many were right and which were wrong. tools/make_cases.py makes
 // the file and says what a record is.
+#![tactic(auto)]
+
 ghost use Rattle.std.specs.Prelude.{◌<◌, ◌≤◌, length};
 
 use libc::STDOUT_FILENO;
@@ -249,7 +251,7 @@ fn run_case(record: &[u8], first: &mut [u8], second: &mut [u8], third: &mut [u8]
     false
 }
 
-#[derive(Drop)]
+#[derive(Clone, Copy)]
 struct Counts {
     right: usize,
     wrong: usize,

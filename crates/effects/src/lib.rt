@@ -1,4 +1,6 @@
 // What an operator asks for, done on the state in the lent table.
+#![tactic(auto)]
+
 ghost use Rattle.std.specs.Prelude.{◌≡◌, ℕ, ◌+◌, ◌<◌, cond, true, false, List};
 ghost use Rattle.tokens.specs.Text.{lowered};
 ghost use Rattle.machine.specs.declared.Work.TheVariants.{Match, Report};
@@ -52,7 +54,7 @@ pub fn inline<'a>(
 
 // The body of an operator as it is entered, from `at` to `end`. `there`: it stands in the bytes of its origin, and the frame that it keeps in
 // the cells.
-#[derive(Drop)]
+#[derive(Clone, Copy)]
 pub struct Callee {
     pub there: bool,
     pub at: u32,

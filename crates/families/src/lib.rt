@@ -1,5 +1,7 @@
 // Families of operators on ways of their own: their effect is made and done in line. All have one shape; one function over them all would
 // have the effect go through memory again (docs/DECISIONS.md, D73).
+#![tactic(auto)]
+
 mod arms; // the effects that a family asks for most
 
 ghost use Rattle.std.specs.Prelude.{◌≡◌, ℕ, ◌+◌, ◌<◌};

@@ -1,5 +1,7 @@
 // The calls for a C host: the library's own, each answer as two numbers (document 01, What the controller takes). Nothing else is
 // decided here. include/porthezvan.h is the other side, docs/HOST.md says the rest.
+#![tactic(auto)]
+
 ghost use Rattle.std.specs.Prelude.{◌≡◌};
 ghost use Rattle.tokens.specs.Refusal.{answer_number, answer_value};
 ghost use Rattle.lists.specs.Promise.{Writes, ReadsBack};
@@ -10,7 +12,7 @@ use tokens::{Outcome, refusals};
 
 // `no` is 0 where the call was done, and `value` what it answers; else `no` is the refusal's number, and `value` its place.
 #[repr(C)]
-#[derive(Drop)]
+#[derive(Clone, Copy)]
 pub struct Answer {
     pub no: u32,
     pub value: u64,

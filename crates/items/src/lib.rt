@@ -1,4 +1,6 @@
 // One token of a table, judged. In order: the kinds; the token by its kind; the token at a place.
+#![tactic(auto)]
+
 ghost use Rattle.std.specs.Prelude.{◌≡◌, ◌&&◌, List, ℕ, ◌+◌, ◌≤◌, eqb, length, nat_abs};
 ghost use Rattle.std.proofs.Math.Seq.{slice};
 ghost use Rattle.std.specs.Int.{w32};
@@ -11,7 +13,7 @@ ghost use Rattle.items.specs.Judged.{number_in, text_token, GoodText, Judged};
 
 // A token of a table, judged: one that can be written, with its words as they stand there (a numerator in two's complement) and a
 // place in the text table; or none.
-#[derive(Drop)]
+#[derive(Clone, Copy)]
 pub enum Item {
     Number { num: u32, den: u32 },
     Identifier { start: usize, len: usize },

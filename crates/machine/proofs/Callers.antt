@@ -39,7 +39,7 @@ module _ (d : ℕ) (callers : List Context) (under : Falling d callers) where
   from_split k n cs (there c {cs = ds} a) f = pick (eqb k c.id) refl (from_split k c.id ds a f.1)
     where
       pick : (b : Bool) → eqb k c.id ≡ b → Split k (from k ds) → Split k (cond b (c ∷ ds) (from k ds))
-      pick true q h = high (there c a) (not_member k d callers (omega (arith, eqb-true k c.id q, above_lt d c.id callers ds a f.1)) under)
+      pick true q h = high (there c a) (not_member k d callers (omega (arith, eqb-true k c.id q, above_lt d callers c.id ds a f.1)) under)
       pick false q h = h
 
   recover_gone : (s : List Entry) (cs : List Context) → Falling d cs → Falling d (recover s cs).contexts

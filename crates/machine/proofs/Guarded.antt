@@ -40,7 +40,7 @@ module _ (d : ℕ) (callers : List Context) where
   own : (n : ℕ) (cs : List Context) → Above d callers cs → Falling n cs → member (running cs).id callers ≡ false
   unfolding running
   own n cs (here c e) f = not_member c.id c.id callers (le_refl _) f.1
-  own n cs (there c {cs = ds} a) f = not_member c.id d callers (omega (arith, above_lt d c.id callers ds a f.1)) (above_falls d c.id callers ds a f.1)
+  own n cs (there c {cs = ds} a) f = not_member c.id d callers (omega (arith, above_lt d callers c.id ds a f.1)) (above_falls d callers c.id ds a f.1)
 
   dropped : (k : ℕ) (t : List Entry) → member k callers ≡ false → guarded callers (mark k ∷ t) ≡ guarded callers t
   unfolding guarded
@@ -95,7 +95,7 @@ module _ (d : ℕ) (callers : List Context) where
   step_stays code s live a g = step_by_lem code s (StaysIn s) Executed live (λ t b. execute_is code _ t) skips fails settles
     where
       under : Falling d callers
-      under = above_falls d _ callers s.contexts a g
+      under = above_falls d callers _ s.contexts a g
 
       moved : (next : ℕ) (c : Context) (cs : List Context) → Above d callers (c ∷ cs) → Above d callers (begun_in next (c ∷ cs) s).contexts
       moved next c cs (here _ e) = here _ e

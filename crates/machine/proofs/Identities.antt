@@ -65,19 +65,19 @@ pub data Above (d : ℕ) (callers : List Context) : List Context → Type 0 wher
 pub nowhere : {d : ℕ} {callers : List Context} → Above d callers [] → ⊥
 nowhere a = elim a [ ]
 
-pub above_falls : (d n : ℕ) (callers cs : List Context) → Above d callers cs → Falling n cs → Falling d callers
-above_falls d n callers cs (here c e) f = rw e at f.1
-above_falls d n callers cs (there c a) f = above_falls d c.id callers _ a f.1
+pub above_falls : (d : ℕ) (callers : List Context) (n : ℕ) (cs : List Context) → Above d callers cs → Falling n cs → Falling d callers
+above_falls d callers n cs (here c e) f = rw e at f.1
+above_falls d callers n cs (there c a) f = above_falls d callers c.id _ a f.1
 
-pub above_lt : (d n : ℕ) (callers cs : List Context) → Above d callers cs → Falling n cs → d < n
-above_lt d n callers cs (here c e) f = omega (arith, f.0)
-above_lt d n callers cs (there c a) f = omega (arith, above_lt d c.id callers _ a f.1, f.0)
+pub above_lt : (d : ℕ) (callers : List Context) (n : ℕ) (cs : List Context) → Above d callers cs → Falling n cs → d < n
+above_lt d callers n cs (here c e) f = omega (arith, f.0)
+above_lt d callers n cs (there c a) f = omega (arith, above_lt d callers c.id _ a f.1, f.0)
 
-pub callers_are : (d n : ℕ) (callers cs : List Context) → Above d callers cs → Falling n cs → callers_of d cs ≡ callers
+pub callers_are : (d : ℕ) (callers : List Context) (n : ℕ) (cs : List Context) → Above d callers cs → Falling n cs → callers_of d cs ≡ callers
 unfolding callers_of from below
-callers_are d n callers cs (here c e) f = rw (eq-eqb d c.id (sym e))
-callers_are d n callers cs (there c {cs = ds} a) f =
-    rw (ne_eqb d c.id (λ u. omega (arith, above_lt d c.id callers ds a f.1))) (callers_are d c.id callers ds a f.1)
+callers_are d callers n cs (here c e) f = rw (eq-eqb d c.id (sym e))
+callers_are d callers n cs (there c {cs = ds} a) f =
+    rw (ne_eqb d c.id (λ u. omega (arith, above_lt d callers c.id ds a f.1))) (callers_are d callers c.id ds a f.1)
 
 pub above_callers : (d : ℕ) (cs : List Context) → member d cs ≡ true → Above d (callers_of d cs) cs
 unfolding callers_of from member below

@@ -1,8 +1,9 @@
 // The machine of document 01 as it is defined: this crate has the definitions (specs/), the theorems on them (proofs/Theorems.antt) and
 // the types that definitions and code share. The code stands in the crates above.
+#![tactic(auto)]
 
 // What an operator's number is to the skeleton: a literal by itself, one that holds a body, the end of a body, or not allowed in one.
-#[derive(Drop)]
+#[derive(Clone, Copy)]
 pub enum Role {
     Plain,
     Holds,
@@ -11,7 +12,7 @@ pub enum Role {
 }
 
 // How reading a body ended: past it, or at a refusal.
-#[derive(Drop)]
+#[derive(Clone, Copy)]
 pub enum Went {
     Past {
         next: usize,
@@ -23,7 +24,7 @@ pub enum Went {
 }
 
 // How reading a literal ended: past it, past the `}` that stood in its place, or at a refusal.
-#[derive(Drop)]
+#[derive(Clone, Copy)]
 pub enum Passed {
     On {
         next: usize,
@@ -38,7 +39,7 @@ pub enum Passed {
 }
 
 // A value on the stack, in a frame or in a cell.
-#[derive(Drop)]
+#[derive(Clone, Copy)]
 pub enum Value {
     Number(numbers::Number),
     Identifier {
@@ -61,7 +62,7 @@ pub enum Value {
 
 // A literal of a body. Starts count from just after the `{` of the body that the engine runs: of a name and a text to the token, of a
 // held body to just after its own `{`.
-#[derive(Drop)]
+#[derive(Clone, Copy)]
 pub enum Literal {
     Figure(numbers::Number),
     Name { start: u32, len: u32 },
@@ -71,7 +72,7 @@ pub enum Literal {
 }
 
 // 2.4.3
-#[derive(Drop)]
+#[derive(Clone, Copy)]
 pub enum VectorOp {
     Get,
     MakeVecLu,
@@ -80,14 +81,14 @@ pub enum VectorOp {
 }
 
 // 2.4.4
-#[derive(Drop)]
+#[derive(Clone, Copy)]
 pub enum FrameOp {
     Fget,
     Fset,
 }
 
 // 2.4.5
-#[derive(Drop)]
+#[derive(Clone, Copy)]
 pub enum CallOp {
     Do,
     DoSave,
@@ -95,7 +96,7 @@ pub enum CallOp {
 }
 
 // 2.4.6
-#[derive(Drop)]
+#[derive(Clone, Copy)]
 pub enum StackOp {
     Pop,
     Copy,
@@ -111,7 +112,7 @@ pub enum StackOp {
 }
 
 // 2.4.8
-#[derive(Drop)]
+#[derive(Clone, Copy)]
 pub enum TestOp {
     Eq,
     Gt,
@@ -123,7 +124,7 @@ pub enum TestOp {
 }
 
 // 2.4.9
-#[derive(Drop)]
+#[derive(Clone, Copy)]
 pub enum ArithOp {
     Add,
     Sub,
@@ -140,7 +141,7 @@ pub enum ArithOp {
 }
 
 // An operator without a body, by its family.
-#[derive(Drop)]
+#[derive(Clone, Copy)]
 pub enum Op {
     OnVectors(VectorOp),
     OnFrame(FrameOp),
@@ -152,7 +153,7 @@ pub enum Op {
 }
 
 // 2.4.5 and 2.4.7: an operator that holds a body. IFCOPY and CORRECT pass over it.
-#[derive(Drop)]
+#[derive(Clone, Copy)]
 pub enum BodyOp {
     MakeSimpleCo,
     DoSaveSimpleBody,
@@ -162,7 +163,7 @@ pub enum BodyOp {
 }
 
 // What the engine does with the values above the topmost mark; it reads frame, cells and code besides.
-#[derive(Drop)]
+#[derive(Clone, Copy)]
 pub enum Work {
     Nothing,
     Fetch { j: u32 },
@@ -178,7 +179,7 @@ pub enum Work {
 }
 
 // The engine's part of an operator: the values above the mark, a body to enter, the running frame, or a mark.
-#[derive(Drop)]
+#[derive(Clone, Copy)]
 pub enum Next {
     Works(Work),
     Inline {
@@ -205,7 +206,7 @@ pub enum Next {
 }
 
 // What an operator makes of the values that it pops: a failure, one number or two (the second on top), or a part for the engine.
-#[derive(Drop)]
+#[derive(Clone, Copy)]
 pub enum Effect {
     Fail,
     Gives(numbers::Number),

@@ -1,4 +1,6 @@
 // Marks placed and removed, and the values above the topmost one counted.
+#![tactic(auto)]
+
 ghost use Rattle.std.specs.Prelude.{◌≡◌, ◌+◌, ◌-◌, ◌<◌, ◌≤◌, length};
 ghost use Rattle.table.specs.Slots.{slots};
 ghost use Rattle.machine.specs.Contexts.{above, beneath};

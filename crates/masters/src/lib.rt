@@ -1,4 +1,6 @@
 // Every body of a master run, or the preamble and one page. The table is clear afterwards. In order so.
+#![tactic(auto)]
+
 ghost use Rattle.std.specs.Prelude.{◌≡◌, List, ℕ, ◌+◌, ◌*◌, ◌<◌, ◌≤◌, length, get_or, replicate};
 ghost use Rattle.std.proofs.Math.Seq.{slice};
 ghost use Rattle.machine.specs.Limits.{scratch_size};

@@ -1,4 +1,6 @@
 // Identifiers compared by their text. Where a text lies in the bytes is said by its origin (0 the preamble's, 1 the page's) and its start.
+#![tactic(auto)]
+
 ghost use Rattle.std.specs.Prelude.{◌≡◌, ◌<◌, length, get_or};
 ghost use Rattle.tokens.specs.Joined.{data_of, joined_at};
 ghost use Rattle.names.specs.Names.{both, data_at, same_text};

@@ -1,4 +1,6 @@
 // An operator by its number (000, appendix B.3).
+#![tactic(auto)]
+
 ghost use Rattle.std.specs.Prelude.{◌≡◌};
 ghost use Rattle.machine.specs.Operators.{op_of, body_op_of};
 

@@ -69,7 +69,7 @@ module _ (k : ℕ) (h : k < 2 ^ 31) where
 -- an i32 made an i64
 module _ (z : ℤ) (h : mag z < 2 ^ 31) where
   narrow : to_z w32 (of_z w32 z) ≡ z
-  narrow = to_z-of_z (record { sfits = h })
+  narrow = to_z-of_z {w = w32} (record { sfits = h })
 
   pub wide_fits : SFits w64 (to_z w32 (of_z w32 z))
   wide_fits = rw narrow (record { sfits = omega arith })

@@ -69,4 +69,4 @@ module _ (x : ℕ) (high : 2147483648 ≤ x) (word : x < 4294967296) where
 
 -- the numerator of a number, passed on
 pub passed : (z : ℤ) → mag z < 2147483648 → of_z w32 (to_z w32 (of_z w32 z)) ≡ of_z w32 z
-passed z h = let e : to_z w32 (of_z w32 z) ≡ z = to_z-of_z (record { sfits = h }) in ap (of_z w32) e
+passed z h = let e : to_z w32 (of_z w32 z) ≡ z = to_z-of_z {w = w32} (record { sfits = h }) in ap (of_z w32) e

@@ -1,5 +1,7 @@
 // What each operator makes of the values that it pops: a file for each section of document 000; 2.4.3 and 2.4.9 are in `reckoning`. There is
 // no state here. What of an operator's work needs the state is told to the engine, as a part that is its own.
+#![tactic(auto)]
+
 pub mod call; // 2.4.5
 pub mod control; // 2.4.5 and 2.4.7: operators that hold a body
 pub mod frame; // 2.4.4

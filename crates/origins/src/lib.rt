@@ -1,4 +1,6 @@
 // Bytes by origin: 0 is the preamble's body, 1 the page's; no other has any.
+#![tactic(auto)]
+
 ghost use Rattle.std.specs.Prelude.{◌≡◌};
 ghost use Rattle.machine.specs.Literal.{bytes_of, found_at};
 ghost use Rattle.names.specs.Names.{both};

@@ -1,5 +1,7 @@
 // A step with a literal that is not passed over: read, executed, and what follows. The bodies have been judged, and nothing in them is judged
 // again (DECISIONS, D77).
+#![tactic(auto)]
+
 ghost use Rattle.std.specs.Prelude.{◌<◌};
 ghost use Rattle.machine.specs.declared.Literal.TheVariants.{Plain};
 ghost use Rattle.machine.specs.Literal.{bytes_of};

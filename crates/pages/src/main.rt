@@ -1,4 +1,6 @@
 // Lists the master on standard input: the preamble as page 0, then every page. In order: a section; a page; all of them.
+#![tactic(auto)]
+
 mod texts; // text put into a buffer
 mod values; // a value as text
 

@@ -1,5 +1,7 @@
 // A sequence token passed over. One in a single piece that obeys its rule is judged where it lies, and nothing of it is kept; any other is
 // read. In order: what is known without that; each type's data; the token.
+#![tactic(auto)]
+
 ghost use Rattle.std.specs.Prelude.{◌≡◌, true, ℕ, ◌+◌, ◌/◌, ◌<◌, ◌≤◌, length, get_or, pos};
 ghost use Rattle.std.proofs.Math.Seq.{slice};
 ghost use Rattle.numbers.specs.Fraction.{ratio_of};
@@ -18,7 +20,7 @@ use tokens::{Pass, Piece, Read, Rule};
 pub mod known; // tokens that have been judged
 
 // The data of a sequence token, with all that continues it: how many bytes, and where they end.
-#[derive(Drop)]
+#[derive(Clone, Copy)]
 pub struct Extent {
     pub len: usize,
     pub next: usize,

@@ -1,5 +1,7 @@
 // The reading point, the bytes together with the place reached, handed from token to token. Each function over it takes it apart and
 // calls one that is proved on slice and place. Callers use `take` and `left_at`, which need no walk of theirs.
+#![tactic(auto)]
+
 ghost use Rattle.std.specs.Prelude.{◌≡◌, ◌-◌, length};
 ghost use Rattle.tokens.specs.Token.{token_at};
 ghost use Rattle.points.specs.Point.{next_of, taken_at};
@@ -7,14 +9,14 @@ ghost use Rattle.points.specs.Point.{next_of, taken_at};
 use reader::reading::read_token;
 use tokens::Read;
 
-#[derive(Drop)]
+#[derive(Clone, Copy)]
 pub struct Reader<'a> {
     src: &'a [u8],
     at: usize,
 }
 
 // A token, and the place after it.
-#[derive(Drop)]
+#[derive(Clone, Copy)]
 pub struct Taken {
     pub token: Read,
     pub next: usize,

@@ -1,1 +1,2 @@
 // The customer's theorem, over the promises of `load`, `run` and `reprint` taken together. No code.
+#![tactic(auto)]

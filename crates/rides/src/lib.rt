@@ -1,5 +1,7 @@
 // A row of literals, and the step that ends it: the end of the body, a literal that fails, or an operator that enters a body or passes over
 // one, each in line. Any other literal is left to `engine`.
+#![tactic(auto)]
+
 ghost use Rattle.std.specs.Prelude.{◌≡◌, true, false, [], ◌∷◌, ◌+◌, ◌-◌, ◌<◌, ◌≤◌, length};
 ghost use Rattle.std.proofs.Math.Option.{none};
 ghost use types.Run.{OneOf};
@@ -28,7 +30,7 @@ use state::Registers;
 // ---- the running body
 
 // Where the running body goes on, and where it ends.
-#[derive(Drop)]
+#[derive(Clone, Copy)]
 struct Seat {
     pub origin: u32,
     pub at: usize,
@@ -152,7 +154,7 @@ fn passes_over(number: u16) -> bool
 }
 
 // Where a row goes on, and the steps that are left.
-#[derive(Drop)]
+#[derive(Clone, Copy)]
 pub struct Further {
     pub at: usize,
     pub left: usize,

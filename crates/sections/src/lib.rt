@@ -1,4 +1,6 @@
 // A result's sections: stack, frame and the cells charged, each after its count.
+#![tactic(auto)]
+
 ghost use Rattle.std.specs.Prelude.{◌≡◌, ◌+◌, ◌*◌, ◌≤◌, length};
 ghost use Rattle.std.proofs.lemmas.List.Edits.{sets};
 ghost use Rattle.table.specs.Slots.{slots, slot_bytes};

@@ -1,8 +1,10 @@
 // The skeleton check of a master (document 01, Skeleton), and `load`. The definitions are those of `machine`.
+#![tactic(auto)]
+
 pub mod pages; // header, BEGIN, preamble, pages, END; load
 
 // What stands where a page or END is due: a comment, a page's body, END at the end of the bytes; or a refusal.
-#[derive(Drop)]
+#[derive(Clone, Copy)]
 pub enum Turn {
     Aside {
         next: usize,

@@ -1,5 +1,7 @@
 // A body passed over once: where it ends is noted, and where each body inside it ends, so that none is passed over again. It has been judged
 // and is known to end. In order: the notes; the pass.
+#![tactic(auto)]
+
 ghost use Rattle.std.specs.Prelude.{◌≡◌, ◌<◌, ◌≤◌, length};
 ghost use Rattle.machine.specs.Limits.{most_open};
 ghost use Rattle.machine.specs.declared.Went.TheVariants.{Past};

@@ -1,6 +1,8 @@
 // The literals that masters are mostly made of: numbers of two bytes, and the operators met most of those that leave cells and contexts as
 // they are; and longer numbers and names. Several in a row are executed here, the height of the stack in hand. What is not done
 // here is left undone, for `rides` and `engine`; of a literal that fails it is told that it does.
+#![tactic(auto)]
+
 ghost use Rattle.std.specs.Prelude.{◌≡◌, true, false, ℕ, ◌<◌, ◌≤◌, length, get_or, [], ◌∷◌};
 ghost use types.Run.{OneOf};
 ghost use Rattle.machine.specs.declared.Literal.TheVariants.{Plain};
@@ -26,7 +28,7 @@ use state::Registers;
 use tokens::Form;
 
 // What a literal leaves: the height of the stack, and where the next token stands. `number` is the operator at its place, 0 for none.
-#[derive(Drop)]
+#[derive(Clone, Copy)]
 pub struct Stride {
     pub height: usize,
     pub next: usize,
@@ -35,7 +37,7 @@ pub struct Stride {
 
 // Where a row of literals has come to: the height of the stack, the steps that are left, the place. `failed`: the literal there fails, and
 // ends at `next`. `number` is the operator there that was left undone, and `next` where it ends; 0 says nothing of what stands there.
-#[derive(Drop)]
+#[derive(Clone, Copy)]
 pub struct Reach {
     pub height: usize,
     pub left: usize,

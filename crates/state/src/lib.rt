@@ -1,6 +1,8 @@
 // The state of the machine in the lent table, and the operations on values and the stack; `contexts`, `recovery` and `store` have the
 // others that the engine is made of. Above these crates nothing knows where in the table a thing stands. How a value lies in a slot is
 // said by `Layout`; slots are made by the operations that push them.
+#![tactic(auto)]
+
 ghost use Rattle.std.specs.Prelude.{◌≡◌};
 
 pub mod stack; // the values above the topmost mark
@@ -8,7 +10,7 @@ pub mod values; // a value read from a slot, a number put into one
 
 // What of the state is no part of the table: entries of the stack, contexts in progress (0: the run has ended), cells used, and the
 // counts. `ok` is the answer of an operation that may fail.
-#[derive(Drop)]
+#[derive(Clone, Copy)]
 pub struct Registers {
     pub height: usize,
     pub depth: usize,
@@ -35,21 +37,21 @@ pub fn afresh(r: Registers) -> Registers
 }
 
 // A place in the bytes of an origin.
-#[derive(Drop)]
+#[derive(Clone, Copy)]
 pub struct Place {
     pub origin: u32,
     pub start: u32,
 }
 
 // Where recovery ends: so many entries, so many contexts.
-#[derive(Drop)]
+#[derive(Clone, Copy)]
 pub struct Landing {
     pub height: usize,
     pub depth: usize,
 }
 
 // The two topmost values above the topmost mark, and how many of them there are.
-#[derive(Drop)]
+#[derive(Clone, Copy)]
 pub struct Tops {
     pub count: usize,
     pub first: table::Slot,

@@ -153,7 +153,7 @@ unfolding asc
 asc_store m b zero i v l f = absurd (omega arith)
 asc_store m b (suc n) zero v l f =
     let f' : b < length m = omega arith in
-    rw add-zero (ap₂ ◌∷◌ (get_or-set_same m b v nil f') (asc_set m b (suc b) n v (inl (omega arith))))
+    ap (λ k. asc (set m k v) b (suc n)) (add-zero b) ∙ ap₂ ◌∷◌ (get_or-set_same m b v nil f') (asc_set m b (suc b) n v (inl (omega arith)))
 asc_store m b (suc n) (suc i) v l f =
     ap₂ ◌∷◌ (get_or-set_other m (b + suc i) b v nil (λ e. omega arith))
     (simp (suc-add, ← add-suc) at (asc_store m (suc b) n i v (omega arith) (omega arith)))

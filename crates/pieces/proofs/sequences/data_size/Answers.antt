@@ -1,0 +1,30 @@
+use Rattle.tokens.proofs.Copying.{none_past, none_missing, size_one, size_whole, size_cut}
+use Rattle.tokens.proofs.Pieces.{Inside, inside}
+use lib.ListN.{length}
+use mathlib.Core.Path.{sym, subst, ◌∙◌}
+use native.Mathlib.Omega.{arith}
+use Rattle.pieces.proofs.sequences.data_size.Goals as goal
+
+pub returns-then-at-s : goal.returns-then-at-s
+returns-then-at-s c = none_past _ _ (omega arith)
+
+pub returns-in-Missing : goal.returns-in-Missing
+returns-in-Missing c = none_missing _ _ (sym c.piece_at.ensures ∙ c.in-Missing.is)
+
+pub overflow_add-start : goal.overflow_add-start
+overflow_add-start c =
+    omega (arith, (subst (Inside (length c.args.s.now) c.args.at) (sym c.piece_at.ensures ∙ c.in-Data.is) (inside c.args.s.now c.args.at)).1, c.well_formed)
+
+pub returns-then-not-is_continued_at : goal.returns-then-not-is_continued_at
+returns-then-not-is_continued_at c =
+    size_one _ _ _ _ (sym c.piece_at.ensures ∙ c.in-Data.is) (sym c.is_continued_at.ensures ∙ c.if-not-is_continued_at.true) (subst (Inside (length c.args.s.now) c.args.at) (sym c.piece_at.ensures ∙ c.in-Data.is) (inside c.args.s.now c.args.at)).1
+
+pub gather-requires : goal.gather-requires
+gather-requires c =
+    (subst (Inside (length c.args.s.now) c.args.at) (sym c.piece_at.ensures ∙ c.in-Data.is) (inside c.args.s.now c.args.at)).1
+
+pub returns-in-Broken : goal.returns-in-Broken
+returns-in-Broken c = size_cut _ _ _ _ 31 _ (sym c.piece_at.ensures ∙ c.in-Data.is) c.gather.ensures.0 c.in-Broken.is
+
+pub returns-in-Whole : goal.returns-in-Whole
+returns-in-Whole c = size_whole _ _ _ _ 31 _ (sym c.piece_at.ensures ∙ c.in-Data.is) c.gather.ensures.0 c.in-Whole.is

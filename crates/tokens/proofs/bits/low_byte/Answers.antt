@@ -1,0 +1,8 @@
+use lib.Bits.{and_mask, mask_lt}
+use Rattle.tokens.proofs.bits.low_byte.Goals as goal
+
+pub overflow_cast-result : goal.overflow_cast-result
+overflow_cast-result c = record { fits = mask_lt c.args.n 8 }
+
+pub returns : goal.returns
+returns c = and_mask c.args.n 8

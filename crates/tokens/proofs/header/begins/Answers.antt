@@ -1,0 +1,7 @@
+-- `header::begins` meets its contract: the bytes are those of the definition. Assumes nothing.
+use Rattle.tokens.specs.Format.{header}
+use Rattle.tokens.proofs.header.begins.Goals as goal
+
+pub returns : goal.returns
+unfolding header
+returns c = c.starts_with.ensures
