@@ -65,26 +65,46 @@ class Names:
         it = self.it['arms'][[q[0] for q in self.it['places']].index(p)]
         best = None
         for new, step, path in (it[2] if it else []):
-            if alike(rest[0], step) and rest[1:1 + len(path)] == path and (best is None or len(path) > len(best[1])) and not new.endswith('-own'):
+            if alike(rest[0], step) and rest[1:1 + len(path)] == path and (best is None or len(path) > len(best[1])):
                 best = (new, path)
+        if best and best[0].endswith('-own') and len(rest) > 1 and re.match(r'keys\d|rest', rest[1]) and it[0].startswith('in_default') and re.match('[A-Z]', self.earlier(p)):
+            return [it[0], 'not-' + self.earlier(p)] + rest[2:]
         return [it[0], best[0]] + rest[1 + len(best[1]):] if best else None
+
+    def earlier(self, p):
+        """The variant of the arm before p's, of the same match."""
+        _, above, (step, _), _, _ = self.place[p]
+        arms = [q[2][1] for q in self.it['places'] if q[1] == above and q[2][0] == step]
+        k = arms.index(self.place[p][2][1])
+        return arms[k - 1][3:] if k else ''
+
+    def record(self, p):
+        """What the record of the facts at a place is called in Goals."""
+        i = [q[0] for q in self.it['places']].index(p)
+        it = self.it['arms'][i]
+        return 'In' + it[0][2:] if it else self.it['places_by_name'][i]
+
+    def above(self, p, f):
+        """The place above p whose step is f by its old name."""
+        while p:
+            if self.field(p)[0] and alike(self.field(p)[0], f):
+                return p
+            p = self.parent(p)
+        return None
 
 
 GLOBALS = {'args', 'requires', 'ranges', 'auto', 'well_formed', 'type_inv', 'utf8'}
 
 
-def flat(text, names, place, said, top='c'):
+def flat(text, names, place, said, top='c', goal=None, takers=()):
     """The text of an answer at a place, its chains made flat."""
     env = {top: place}
 
     def resolve(head, parts):
         p = env[head]
         while parts and parts[0] == 'before':
-            p = names.parent(p)
+            p = names.parent(p) or 'Start'
             parts = parts[1:]
-            if p is None:
-                said.append(f'{head}: too many steps back')
-                return None, None
         return p, parts
 
     out, i = [], 0
@@ -100,9 +120,16 @@ def flat(text, names, place, said, top='c'):
             head, parts = m.group(1), (m.group(2) or '').split('.')[1:]
             if head in env:
                 p, rest = resolve(head, parts)
-                if p is None or not rest:
-                    said.append(f'{m.group(0)} at {place}: a record is passed')
-                    out.append(m.group(0))
+                if not rest:
+                    before = ''.join(out).split()
+                    taker = takers.get(before[-1].lstrip('(')) if before and takers else None
+                    if taker and goal:
+                        out.append(f'(goal.at.{goal} c).{taker}')
+                    elif taker:
+                        out.append('c')
+                    else:
+                        said.append(f'{m.group(0)} at {place}: a record is passed')
+                        out.append('c')
                 else:
                     f = rest[0]
                     old, new = names.field(p)
@@ -118,8 +145,14 @@ def flat(text, names, place, said, top='c'):
                         rest[0] = norm(f)
                     elif len(rest) > 1 and rest[1] == 'given':
                         rest = ['auto', f.rstrip('0123456789')]
+                    elif names.above(place, f):
+                        q = names.above(place, f)
+                        armed = names.arm(q, rest)
+                        rest = armed or [names.field(q)[1]] + rest[1:]
+                        turn = dict(names.place[q][4])
+                        if not armed and len(rest) > 1 and rest[1] in turn:
+                            rest[1] = turn[rest[1]]
                     else:
-                        q, found = p, None
                         said.append(f'{m.group(0)} at {place}: {p} has {names.field(p)}')
                     rest = [r.replace('type-inv', 'type_inv') for r in rest]
                     out.append('c.' + '.'.join(rest))
@@ -162,6 +195,10 @@ def decls(text):
     """The declarations of a file after its imports: name, signature, unfolding line, body."""
     got, cur = [], None
     for line in text.split('\n'):
+        if line.startswith('module '):
+            cur = {'name': line, 'sig': line, 'unfolding': None, 'body': [], 'lead': []}
+            got.append(cur)
+            continue
         if line and not line[0].isspace() and not line.startswith('--'):
             m = re.match(r"((?:pub |abbrev |unfoldable )*)(\S+) :\s*(.*)$", line)
             if m and not line.startswith('unfolding'):
@@ -194,7 +231,7 @@ def one_file(crate, path, folder, table):
         return [f'no names for {key}'], None, None
     names = Names(table[key])
     ds = decls(rest)
-    spec = [d for d in ds if d['name'].endswith('_spec')]
+    spec = [d for d in ds if d['name'].endswith('_spec') and not d['name'].startswith('module ')]
     if len(spec) != 1:
         return ['no spec'], None, None
     body = spec[0]['body']
@@ -211,6 +248,17 @@ def one_file(crate, path, folder, table):
         return [f'{len(args)} answers for {len(needs)} goals, {len(loops)} loops'], None, None
     by_name = {d['name']: d for d in ds}
     used = set()
+    takers = {}
+    old_places = {norm(q[0]): q[0] for q in table[key]['places']}
+    for d in ds:
+        m = re.match(r"((?:pub |abbrev )*\S+ : )\(c : tie\.(\S+?)(?: invariant_\w+| decreases_\w+)*\) → (.*)$", d['sig'], re.S)
+        if m and norm(m.group(2)) in old_places:
+            d['place'] = old_places[norm(m.group(2))]
+            takers[d['name']] = names.record(d['place'])
+            d['sig'] = f"{m.group(1)}(c : {takers[d['name']]}) → " + flat(m.group(3), names, d['place'], said)
+    for d in ds:
+        if d.get('place'):
+            d['body'] = flat(d['body'], names, d['place'], said, takers=takers)
     for a in args[:k]:
         d = by_name[a]
         used.add(a)
@@ -226,7 +274,7 @@ def one_file(crate, path, folder, table):
         inv.append((f'{kind}-{new}', invariant(a, d['body'], m.group(2))))
     answers, helpers = [], []
     for a, (old, new), (place, _) in zip(args[k:], needs, table[key]['asked_at']):
-        unfolding = None
+        unfolding = spec[0]['unfolding']
         if a.startswith('('):
             t = a[1:-1].strip()
             m = re.match(r"λ c(?: κs)?\.\s*", t)
@@ -248,10 +296,13 @@ def one_file(crate, path, folder, table):
             unfolding = d['unfolding']
         if t in ('search rules', 'search needs') and not unfolding:
             continue
-        answers.append((new, unfolding, flat(t, names, place, said)))
+        answers.append((new, unfolding, flat(t, names, place, said, goal=new, takers=takers)))
     for d in ds:
         if d['name'] not in used and d is not spec[0]:
             helpers.append(d)
+    for d in ds:
+        if d['name'] in used and any(re.search(r"(?<![\w.'-])" + re.escape(d['name']) + r"(?![\w'-])", e['body']) for e in ds if e is not d and e is not spec[0]):
+            said.append(f"{d['name']} is cited by another answer")
     # the texts
     out, invs = None, None
     if answers or helpers:
@@ -263,7 +314,8 @@ def one_file(crate, path, folder, table):
         for name, unfolding, t in answers:
             text.append(f'pub {name} : goal.{name}\n' + (unfolding + '\n' if unfolding else '') + f'{name} c =' + ('\n    ' if len(t) > 100 and not t.startswith('let ') else ' ' if not t.startswith('let ') else '\n    ') + t + '\n')
         text = '\n'.join(text)
-        out = '\n'.join(head + imports(uses, text) + [f'use Rattle.{crate}.proofs.{mod}.Goals as goal', '', text])
+        records = sorted({v for k, v in takers.items()})
+        out = '\n'.join(head + imports(uses, text) + [f'use Rattle.{crate}.proofs.{mod}.Goals as goal'] + ([f'use Rattle.{crate}.proofs.{mod}.Goals.{{{", ".join(records)}}}'] if records else []) + ['', text])
     if inv:
         text = '\n'.join(f'abbrev pub {n} : goal.{n}\n{n} l = {t}\n' for n, t in inv)
         invs = '\n'.join(imports(uses, text) + [f'use Rattle.{crate}.proofs.{mod}.Given as goal', '', text])

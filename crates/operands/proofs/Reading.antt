@@ -2,22 +2,18 @@
 -- on a value that was read; a test of operands. Assumes nothing.
 use mathlib.Core.Path.{◌≡◌, refl}
 use mathlib.Core.Bool.{Bool, true, false, cond}
-use mathlib.Core.List.{List, [], ◌∷◌}
 use mathlib.Core.Option.{none, some}
 use Prim.Native.Nat.{ℕ, ◌≤◌, ◌<◌}
 use native.Mathlib.Omega.{arith}
 use borrow.Author.Tests.{eq-eqb, ne_eqb, le-leb, lt-leb}
-use denote.Enum.Declared.{tag_of}
 use lib.IntN.{ℤ, pos, negsuc}
 use lib.Signed.{mag}
 use mir.Syntax.{w32}
 use mir.Val.{to_z, of_z}
 use mir.Facts.{to_z-of_z}
-use types.Run.{OneOf, miss}
 use Rattle.numbers.specs.declared.Number as num
 use Rattle.machine.specs.declared.Value.{Value}
 use Rattle.machine.specs.declared.Value.TheVariants.{Number, Identifier, Vector, Operator}
-use Rattle.machine.specs.contracts.Value as value
 use Rattle.machine.specs.declared.Effect.{Effect}
 use Rattle.machine.specs.declared.Effect.TheVariants.{Fail}
 use Rattle.machine.specs.Operand.{cardinal_in, cardinal?, if_some, as_cardinal, as_number, as_vector, as_operator}
@@ -28,38 +24,47 @@ use Rattle.operands.specs.declared.Figure.TheVariants.{Other, Of}
 use Rattle.operands.specs.Operands.{card_of, Within, figure_of}
 use Rattle.operands.specs.Sizes.{Small}
 
--- ---- a value by its kind: 0 a number, 1 an identifier, 2 a vector, 3 an operator
+-- ---- a value that is not of a kind
 
-abbrev pub KindIn : List ℕ → Value → Type 0
-KindIn ks v = OneOf ks (tag_of value.the_type v)
+abbrev pub NoNumber : Value → Type 0
+NoNumber v = (a : num.Number) → v ≡ Number a → ⊥
 
-pub other_figure : (v : Value) → KindIn (1 ∷ 2 ∷ 3 ∷ []) v → Other ≡ figure_of v
+abbrev pub NoIdentifier : Value → Type 0
+NoIdentifier v = (o s l : ℕ) → v ≡ Identifier o s l → ⊥
+
+abbrev pub NoVector : Value → Type 0
+NoVector v = (f l n : ℕ) → v ≡ Vector f l n → ⊥
+
+abbrev pub NoOperator : Value → Type 0
+NoOperator v = (o s l f : ℕ) → v ≡ Operator o s l f → ⊥
+
+pub other_figure : (v : Value) → NoNumber v → Other ≡ figure_of v
 unfolding figure_of
-other_figure (Number a) h = absurd (miss (1 ∷ 2 ∷ 3 ∷ []) 0 tt h)
+other_figure (Number a) h = absurd (h a refl)
 other_figure (Identifier origin start len) h = refl
 other_figure (Vector first lower count) h = refl
 other_figure (Operator origin start len first) h = refl
 
-pub other_card : (v : Value) → KindIn (1 ∷ 2 ∷ 3 ∷ []) v → none ≡ cardinal? v
+pub other_card : (v : Value) → NoNumber v → none ≡ cardinal? v
 unfolding cardinal?
-other_card (Number a) h = absurd (miss (1 ∷ 2 ∷ 3 ∷ []) 0 tt h)
+other_card (Number a) h = absurd (h a refl)
 other_card (Identifier origin start len) h = refl
 other_card (Vector first lower count) h = refl
 other_card (Operator origin start len first) h = refl
 
-pub no_vector : (v : Value) (f : ℕ → ℕ → ℕ → Effect) → KindIn (0 ∷ 1 ∷ 3 ∷ []) v → Fail ≡ as_vector v f
+pub no_vector : (v : Value) (f : ℕ → ℕ → ℕ → Effect) → NoVector v → Fail ≡ as_vector v f
 unfolding as_vector
 no_vector (Number a) f h = refl
 no_vector (Identifier origin start len) f h = refl
-no_vector (Vector first lower count) f h = absurd (miss (0 ∷ 1 ∷ 3 ∷ []) 2 tt h)
+no_vector (Vector first lower count) f h = absurd (h first lower count refl)
 no_vector (Operator origin start len first) f h = refl
 
-pub no_operator : (v : Value) (f : ℕ → ℕ → ℕ → ℕ → Effect) → KindIn (0 ∷ 1 ∷ 2 ∷ []) v → Fail ≡ as_operator v f
+pub no_operator : (v : Value) (f : ℕ → ℕ → ℕ → ℕ → Effect) → NoOperator v → Fail ≡ as_operator v f
 unfolding as_operator
 no_operator (Number a) f h = refl
 no_operator (Identifier origin start len) f h = refl
 no_operator (Vector first lower count) f h = refl
-no_operator (Operator origin start len first) f h = absurd (miss (0 ∷ 1 ∷ 2 ∷ []) 3 tt h)
+no_operator (Operator origin start len first) f h = absurd (h origin start len first refl)
 
 -- ---- a Cardinal: a denominator 1, and a numerator whose bits are not above the largest
 

@@ -17,7 +17,7 @@ use Rattle.machine.specs.declared.Effect.TheVariants.{Acts}
 use Rattle.machine.specs.Operand.{whether}
 use Rattle.machine.specs.Ops.Stack.{mild_code}
 use Rattle.machine.specs.Ops.Test.{is_equal, equals}
-use Rattle.operands.proofs.Reading.{KindIn}
+use Rattle.operands.proofs.Reading.{NoNumber, NoIdentifier}
 
 -- ---- the codes of ERROR
 
@@ -53,9 +53,9 @@ pub eq_numbers : {x y : Value} (a b : num.Number) → x ≡ Number a → y ≡ N
 unfolding equals
 eq_numbers a b e h = rw (e, h)
 
-pub eq_number : {x : Value} (a : num.Number) (y : Value) → x ≡ Number a → KindIn (1 ∷ 2 ∷ 3 ∷ []) y → whether false ≡ equals x y
+pub eq_number : {x : Value} (a : num.Number) (y : Value) → x ≡ Number a → NoNumber y → whether false ≡ equals x y
 unfolding equals
-eq_number a (Number b) e h = absurd (miss (1 ∷ 2 ∷ 3 ∷ []) 0 tt h)
+eq_number a (Number b) e h = absurd (h b refl)
 eq_number a (Identifier origin start len) e h = rw e
 eq_number a (Vector first lower count) e h = rw e
 eq_number a (Operator origin start len first) e h = rw e
@@ -64,16 +64,16 @@ pub eq_identifiers : {x y : Value} (o s l p t m : ℕ) → x ≡ Identifier o s 
 unfolding equals
 eq_identifiers o s l p t m e h = rw (e, h)
 
-pub eq_identifier : {x : Value} (o s l : ℕ) (y : Value) → x ≡ Identifier o s l → KindIn (0 ∷ 2 ∷ 3 ∷ []) y → whether false ≡ equals x y
+pub eq_identifier : {x : Value} (o s l : ℕ) (y : Value) → x ≡ Identifier o s l → NoIdentifier y → whether false ≡ equals x y
 unfolding equals
 eq_identifier o s l (Number b) e h = rw e
-eq_identifier o s l (Identifier origin start len) e h = absurd (miss (0 ∷ 2 ∷ 3 ∷ []) 1 tt h)
+eq_identifier o s l (Identifier origin start len) e h = absurd (h origin start len refl)
 eq_identifier o s l (Vector first lower count) e h = rw e
 eq_identifier o s l (Operator origin start len first) e h = rw e
 
-pub eq_never : (x y : Value) → KindIn (2 ∷ 3 ∷ []) x → whether false ≡ equals x y
+pub eq_never : (x y : Value) → NoNumber x → NoIdentifier x → whether false ≡ equals x y
 unfolding equals
-eq_never (Number a) y h = absurd (miss (2 ∷ 3 ∷ []) 0 tt h)
-eq_never (Identifier o s l) y h = absurd (miss (2 ∷ 3 ∷ []) 1 tt h)
-eq_never (Vector f l c) y h = refl
-eq_never (Operator o s l f) y h = refl
+eq_never (Number a) y g h = absurd (g a refl)
+eq_never (Identifier o s l) y g h = absurd (h o s l refl)
+eq_never (Vector f l c) y g h = refl
+eq_never (Operator o s l f) y g h = refl

@@ -49,7 +49,7 @@ zero_plain z e h = not_five 1 (omega arith) (sym (ap (λ (v : Slot). v.kind) e) 
 pub number_back : (a : num.Number) (x : ℕ) → mag a.num < 2147483648 → x ≡ of_z w32 (to_z w32 (of_z w32 a.num)) → (value_in (mk 1 x a.den 0 0) ≡ Number a) × (◌≡◌ {A = ℕ} 1 5 → ⊥)
 unfolding value_in
 number_back a x f g =
-    let back : to_z w32 (of_z w32 a.num) ≡ a.num = to_z-of_z (record { sfits = f }) in
+    let back : to_z w32 (of_z w32 a.num) ≡ a.num = to_z-of_z {w = w32} (record { sfits = f }) in
     (rw (g, back, back), not_five 1 (omega arith))
 
 pub name_slot : (o s l : ℕ) → (value_in (mk 2 o s l 0) ≡ Identifier o s l) × (◌≡◌ {A = ℕ} 2 5 → ⊥)

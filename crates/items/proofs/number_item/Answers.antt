@@ -1,0 +1,15 @@
+-- `number_item` meets its contract. Assumes nothing.
+use borrow.Author.Tests.{eq-eqb, ne_eqb}
+use Rattle.items.proofs.Judging.{judged_left, judged_right, judged_yes, fraction_is, number_here}
+use Rattle.items.proofs.number_item.Goals as goal
+
+pub returns-then-c-ne0 : goal.returns-then-c-ne0
+returns-then-c-ne0 c = λ x. judged_left x _ _ (ne_eqb _ _ c.if-c-ne0.true)
+
+pub returns-then-is_fraction : goal.returns-then-is_fraction
+returns-then-is_fraction c =
+    λ x. judged_yes x _ _ _ _ (eq-eqb _ _ c.if-c-ne0.false) (fraction_is c.args.a c.args.b _ _ c.size_of_word.ensures c.is_fraction.ensures) c.if-is_fraction.true (number_here x _ _)
+
+pub returns : goal.returns
+returns c =
+    λ x. judged_right x _ _ _ (fraction_is c.args.a c.args.b _ _ c.size_of_word.ensures c.is_fraction.ensures) c.if-is_fraction.false

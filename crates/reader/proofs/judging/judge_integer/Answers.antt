@@ -1,0 +1,17 @@
+-- `judging::judge_integer` meets its contract. Assumes nothing.
+use Rattle.tokens.proofs.Sizes.{ruled_is, ruled_not, integer_few}
+use Prim.Native.Nat.{◌≤◌}
+use native.Mathlib.Omega.{arith}
+use mathlib.Core.Path.{sym, ◌∙◌}
+use Rattle.reader.proofs.judging.judge_integer.Goals as goal
+
+pub returns-then-not-integer_size : goal.returns-then-not-integer_size
+returns-then-not-integer_size c = ruled_not _ _ _ _ (sym c.integer_size.ensures ∙ c.if-not-integer_size.true) c.bad_data.ensures
+
+pub integer-requires : goal.integer-requires
+integer-requires c =
+    let few : c.args.g.len ≤ 4 = integer_few _ (sym c.integer_size.ensures ∙ c.if-not-integer_size.false) in
+    (few, c.requires (omega (arith, few)))
+
+pub returns : goal.returns
+returns c = ruled_is _ _ _ _ (sym c.integer_size.ensures ∙ c.if-not-integer_size.false) c.integer.ensures

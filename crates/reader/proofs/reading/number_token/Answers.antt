@@ -1,0 +1,7 @@
+use Rattle.tokens.specs.declared.Read.TheVariants.{Number}
+use Rattle.numbers.specs.declared.Number as number
+use mathlib.Core.Path.{ap}
+use Rattle.reader.proofs.reading.number_token.Goals as goal
+
+pub returns : goal.returns
+returns c = ap (λ (v : number.Number). Number v c.args.next) c.short_value-value.ensures
