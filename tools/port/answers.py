@@ -134,7 +134,10 @@ def flat(text, names, place, said, top='c', goal=None, takers=()):
                     f = rest[0]
                     old, new = names.field(p)
                     armed = names.arm(p, rest)
-                    if armed:
+                    known = {norm(step): s for s, step in names.it['typed'][[q[0] for q in names.it['places']].index(place)]}
+                    if 'known' in f and len(rest) > 1 and rest[1] == 'given' and norm(f) in known:
+                        rest = ['type_inv', known[norm(f)]] + rest[2:]
+                    elif armed:
                         rest = armed
                     elif old and (alike(f, old) or alike(f, new)):
                         rest[0] = new
