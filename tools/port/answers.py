@@ -158,6 +158,11 @@ def flat(text, names, place, said, top='c', goal=None, takers=()):
                     else:
                         said.append(f'{m.group(0)} at {place}: {p} has {names.field(p)}')
                     rest = [r.replace('type-inv', 'type_inv') for r in rest]
+                    if len(rest) > 2 and rest[1] in ('new', 'auto') and rest[2].isdigit():
+                        callee = next((q[3] for q in names.it['places'] if q[2][1] == rest[0] and q[3]), None)
+                        params = names.it['params'].get(callee)
+                        if params and int(rest[2]) < len(params):
+                            rest[2] = params[int(rest[2])]
                     out.append('c.' + '.'.join(rest))
             else:
                 out.append(m.group(0))
@@ -280,26 +285,30 @@ def one_file(crate, path, folder, table):
         unfolding = spec[0]['unfolding']
         if a.startswith('('):
             t = a[1:-1].strip()
-            m = re.match(r"λ c(?: κs)?\.\s*", t)
+            m = re.match(r"λ c(?: κs)?((?: [\w'-]+)*)\.\s*", t)
             if not m:
                 said.append(f'{new}: {t[:60]}')
                 continue
+            more = m.group(1)
             t = t[m.end():]
+            if t in ('search rules', 'search needs'):
+                continue
         else:
             if a not in by_name:
                 said.append(f'{new}: {a}')
                 continue
             d = by_name[a]
             used.add(a)
-            m = re.match(re.escape(a) + r" c(?: κs)? =\s*", d['body'])
+            m = re.match(re.escape(a) + r" c(?: κs)?((?: [\w'-]+)*) =\s*", d['body'])
             if not m:
                 said.append(f'{new}: {d["body"][:80]}')
                 continue
             t = d['body'][m.end():]
+            more = m.group(1)
             unfolding = d['unfolding']
         if t in ('search rules', 'search needs') and not unfolding:
             continue
-        answers.append((new, unfolding, flat(t, names, place, said, goal=new, takers=takers)))
+        answers.append((new, unfolding, more, flat(t, names, place, said, goal=new, takers=takers)))
     for d in ds:
         if d['name'] not in used and d is not spec[0]:
             helpers.append(d)
@@ -314,8 +323,8 @@ def one_file(crate, path, folder, table):
             text.append('\n'.join([d['sig']] + ([d['unfolding']] if d['unfolding'] else []) + [d['body']]) + '\n')
             if re.search(r'\b(tie|lts)\.', d['sig']):
                 said.append(f'helper {d["name"]} : {d["sig"]}')
-        for name, unfolding, t in answers:
-            text.append(f'pub {name} : goal.{name}\n' + (unfolding + '\n' if unfolding else '') + f'{name} c =' + ('\n    ' if len(t) > 100 and not t.startswith('let ') else ' ' if not t.startswith('let ') else '\n    ') + t + '\n')
+        for name, unfolding, more, t in answers:
+            text.append(f'pub {name} : goal.{name}\n' + (unfolding + '\n' if unfolding else '') + f'{name} c{more} =' + ('\n    ' if len(t) > 100 and not t.startswith('let ') else ' ' if not t.startswith('let ') else '\n    ') + t + '\n')
         text = '\n'.join(text)
         records = sorted({v for k, v in takers.items()})
         out = '\n'.join(head + imports(uses, text) + [f'use Rattle.{crate}.proofs.{mod}.Goals as goal'] + ([f'use Rattle.{crate}.proofs.{mod}.Goals.{{{", ".join(records)}}}'] if records else []) + ['', text])

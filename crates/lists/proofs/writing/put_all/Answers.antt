@@ -1,0 +1,38 @@
+-- `writing::put_all` meets its contract: a turn of the second pass, proofs/Passes.antt. Assumes nothing.
+use Rattle.std.proofs.Common.{◌-◌, length, arith}
+use Rattle.tokens.specs.Format.{header}
+use Rattle.items.specs.Listing.{listed}
+use Rattle.lists.proofs.Passes.{putting_start, putting_end, putting_room, putting_on, fits_start}
+use Rattle.lists.proofs.writing.put_all.Goals as goal
+
+pub copy-requires : goal.copy-requires
+copy-requires c =
+    (fits_start (listed c.args.list.now c.args.text.now) (length c.args.out.now) c.requires, omega arith)
+
+pub loop-at-init : goal.loop-at-init
+loop-at-init c = putting_start c.args.list.now c.args.text.now _
+
+pub item_at-requires : goal.item_at-requires
+item_at-requires c = omega arith
+
+pub put_item-o-requires : goal.put_item-o-requires
+put_item-o-requires c =
+    let a = c.args in let o = c.loop-at in putting_room a.list.now a.text.now c.copy.new.out o.out o.at o.o o.invariant (omega arith) (length a.out.now) c.requires c.item_at.result c.item_at.ensures (omega (arith, c.copy.auto))
+
+pub overflow_add-at : goal.overflow_add-at
+overflow_add-at c = omega arith
+
+pub loop-at-smaller : goal.loop-at-smaller
+loop-at-smaller c = omega arith
+
+pub loop-at-preserved : goal.loop-at-preserved
+loop-at-preserved c =
+    let a = c.args in let o = c.loop-at in putting_on a.list.now a.text.now c.copy.new.out o.out o.at o.o o.invariant (omega arith) (length a.out.now) c.requires c.item_at.result c.item_at.ensures _ _ c.put_item-o.ensures (omega (arith, c.put_item-o.auto))
+
+pub shape_of-out : goal.shape_of-out
+shape_of-out c = omega (arith, c.loop-at.invariant.kept, c.copy.auto)
+
+pub returns : goal.returns
+unfolding header
+returns c =
+    let a = c.args in let o = c.loop-at in putting_end a.list.now a.text.now c.copy.new.out o.out o.at o.o o.invariant (omega arith) a.out.now c.copy.ensures

@@ -1,0 +1,31 @@
+-- `pass_sequence` meets its contract: one piece that is sound, or the token as it is read. Assumes nothing.
+use Rattle.tokens.specs.declared.Piece.TheVariants.{Data}
+use Rattle.tokens.specs.Passing.{pass_of}
+use Rattle.tokens.proofs.OnePiece.{one_piece}
+use Rattle.tokens.proofs.Pieces.{Inside, inside}
+use lib.ListN.{length}
+use Prim.Native.Nat.{◌+◌}
+use native.Mathlib.Omega.{arith}
+use mathlib.Core.Path.{sym, ap, ◌∙◌}
+use Rattle.passing.proofs.pass_sequence.Goals as goal
+
+pub overflow_add-next : goal.overflow_add-next
+overflow_add-next c =
+    let a = c.args in
+    let w : Inside (length a.s.now) a.at (Data c.in-Data.start c.in-Data.len) = rw (← c.piece_at.ensures, c.in-Data.is) at (inside a.s.now a.at) in
+    omega (arith, w.1, c.well_formed)
+
+pub is_sound-requires : goal.is_sound-requires
+is_sound-requires c =
+    let a = c.args in
+    let w : Inside (length a.s.now) a.at (Data c.in-Data.start c.in-Data.len) = rw (← c.piece_at.ensures, c.in-Data.is) at (inside a.s.now a.at) in
+    w.1
+
+pub returns-then-is_sound : goal.returns-then-is_sound
+returns-then-is_sound c =
+    let a = c.args in
+    let p = one_piece a.s.now a.at (omega arith) (omega arith) _ _ (sym c.piece_at.ensures ∙ c.in-Data.is) (sym c.is_continued_at.ensures ∙ c.if-not-is_continued_at.true) in
+    sym (ap pass_of p ∙ rw c.low5.ensures at (c.is_sound.ensures c.if-is_sound.true a.at (c.in-Data.start + c.in-Data.len)))
+
+pub returns : goal.returns
+returns c = c.pass_of.ensures ∙ ap pass_of c.read_token.ensures
