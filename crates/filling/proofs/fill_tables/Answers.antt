@@ -1,0 +1,47 @@
+-- `fill_tables` meets its contract: what is stored and what is left from `at` on are the whole list. Assumes nothing.
+use mathlib.Core.Path.{refl}
+use mathlib.Core.List.{[], ◌++◌}
+use Prim.Native.Nat.{◌-◌, ◌<◌}
+use native.Mathlib.Omega.{arith}
+use lib.ListN.{length}
+use Rattle.tokens.proofs.Theorems.{token_says}
+use Rattle.lists.specs.Promise.{texts_of, list_of}
+use Rattle.filling.specs.Filling.{tokens_in, added}
+use Rattle.filling.proofs.Filled.{Filled, filled_room, filled_next, filled_end}
+use Rattle.filling.proofs.fill_tables.Goals as goal
+
+turned : (c : tie.After-put-read invariant_loop decreases_loop) →
+    let a = c.before.before.before.before.before.before.before.before.before.args in let o = c.before.before.before.before.before.loop in let i = o.invariant in let r = c.put-read.result in let last = c.put-read.new.1.1.1 in
+    Filled (tokens_in a.s.now) a.s.now a.list.now last.0 a.text.now last.1.1.0 (i.0 - 1) r.at r.p r.o (i.1 ++ added a.s.now o.at c.before.before.before.read-token.result) × (o.at < r.at)
+turned c =
+    let s = c.before.before.before.before.before.before.before.before.before.args.s.now in
+    let kept = c.put-read.auto.1.1.1 in
+    let told = token_says s c.before.before.before.before.before.loop.at (λ i. omega (arith, c.before.before.before.before.before.before.before.before.shared-slice-known.given i)) (omega arith) in
+    filled_next c.before.before.before.before.before.loop.invariant.2 c.before.before.before.before.before.before.before.before.before.requires.0 c.before.before.before.before.before.before.before.before.before.requires.1 (omega arith) c.before.before.before.read-token.ensures told c.put-read.ensures kept.0 kept.1.1.0
+
+pub loop-at-init : goal.loop-at-init
+unfolding list_of texts_of
+loop-at-init c =
+    (length c.args.s.now, [], record { room = omega arith; place = refl; texts = refl; before = omega arith; list_same = refl; text_same = refl; list_is = refl; text_is = refl; rest = refl })
+
+pub read_token-requires : goal.read_token-requires
+read_token-requires c = tt
+
+pub put_read-g-requires : goal.put_read-g-requires
+put_read-g-requires c = filled_room c.loop-at.invariant.2 c.requires.0 c.requires.1 (omega arith) c.read_token.ensures
+
+pub loop-at-smaller : goal.loop-at-smaller
+loop-at-smaller c = omega (arith, (turned c).1)
+
+pub loop-at-preserved : goal.loop-at-preserved
+loop-at-preserved c =
+    let o = c.loop-at in (o.invariant.0 - 1, o.invariant.1 ++ added c.args.s.now o.at c.read_token.result, (turned c).0)
+
+pub shape_of-list : goal.shape_of-list
+shape_of-list c = c.loop-at.invariant.2.list_same
+
+pub shape_of-text : goal.shape_of-text
+shape_of-text c = c.loop-at.invariant.2.text_same
+
+pub returns : goal.returns
+returns c = filled_end c.loop-at.invariant.2 (omega arith)

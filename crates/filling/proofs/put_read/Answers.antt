@@ -1,0 +1,56 @@
+-- `put_read` meets its contract, kind by kind. Assumes nothing.
+use mathlib.Core.Path.{sym, subst}
+use mathlib.Core.Bool.{true, false}
+use native.Mathlib.Omega.{arith}
+use Rattle.tokens.proofs.Theorems.{token_says}
+use Rattle.tokens.proofs.Told.{Told}
+use Rattle.filling.proofs.Placing.{IsText, identifier_is, string_is, number_room, number_put, operator_room, operator_put, comment_put, no_refusal, text_end, text_ok, text_put}
+use Rattle.filling.proofs.put_read.Goals as goal
+use Rattle.filling.proofs.put_read.Goals.{After-slice_known-2-1, In-Identifier, In-String}
+
+known : (c : After-slice_known-2-1) → let a = c.args in Told a.s.now a.at a.t
+known c = let a = c.args in subst (Told a.s.now a.at) (sym c.requires.is_there) (token_says a.s.now a.at (λ i. omega (arith, c.type_inv.s i)) (omega (arith, c.requires.inside)))
+
+name : (c : In-Identifier) → let a = c.args in IsText a.s.now a.at a.t true 2 c.in-Identifier.len c.in-Identifier.next
+name c = let a = c.args in identifier_is a.s.now a.at a.t (known c) c.in-Identifier.is
+
+text : (c : In-String) → let a = c.args in IsText a.s.now a.at a.t false 3 c.in-String.count c.in-String.next
+text c = let a = c.args in string_is a.s.now a.at a.t (known c) c.in-String.is
+
+pub put_number-requires : goal.put_number-requires
+put_number-requires c = number_room c.requires c.in-Number.is
+
+pub returns-in-Number : goal.returns-in-Number
+returns-in-Number c = rw c.past.ensures (number_put c.requires c.in-Number.is c.put_number.ensures)
+
+pub put_text-requires : goal.put_text-requires
+put_text-requires c = text_ok c.requires (name (goal.at.put_text-requires c).In-Identifier)
+
+pub overflow_add-o : goal.overflow_add-o
+overflow_add-o c = omega (arith, text_end c.requires (name (goal.at.overflow_add-o c).In-Identifier))
+
+pub returns-in-Identifier : goal.returns-in-Identifier
+returns-in-Identifier c =
+    rw c.past-in-Identifier.ensures (text_put c.requires (name (goal.at.returns-in-Identifier c).In-Identifier) c.put_text.ensures)
+
+pub put_text-requires-in-String : goal.put_text-requires-in-String
+put_text-requires-in-String c = text_ok c.requires (text (goal.at.put_text-requires-in-String c).In-String)
+
+pub overflow_add-o-in-String : goal.overflow_add-o-in-String
+overflow_add-o-in-String c = omega (arith, text_end c.requires (text (goal.at.overflow_add-o-in-String c).In-String))
+
+pub returns-in-String : goal.returns-in-String
+returns-in-String c =
+    rw c.past-in-String.ensures (text_put c.requires (text (goal.at.returns-in-String c).In-String) c.put_text-in-String.ensures)
+
+pub put_words-requires : goal.put_words-requires
+put_words-requires c = operator_room c.requires c.in-Operator.is
+
+pub returns-in-Operator : goal.returns-in-Operator
+returns-in-Operator c = rw c.past-in-Operator.ensures (operator_put c.requires c.in-Operator.is c.put_words.ensures)
+
+pub returns-in-Comment : goal.returns-in-Comment
+returns-in-Comment c = comment_put c.requires c.in-Comment.is
+
+pub returns-in-Unread : goal.returns-in-Unread
+returns-in-Unread c = absurd (no_refusal c.requires c.in-Unread.is)
