@@ -224,6 +224,21 @@ def decls(text):
     return got
 
 
+def without_settled(args, needs, head, settled):
+    """The answers without those of goals that are settled now."""
+    extra = len(args) - len(needs) - head
+    if extra <= 0 or extra > settled:
+        return args
+    from itertools import combinations
+    can = [i for i in range(head, len(args)) if re.match(r'\(λ c\. (search rules|refl|omega arith)\)$', args[i])]
+    for gone in combinations(can, extra):
+        rest = [a for i, a in enumerate(args) if i not in gone]
+        if all((' κs' in a[:9] or not a.startswith('(')) == ('requires' in old) or (not a.startswith('(') and norm(a) == norm(old))
+               for a, (old, _) in zip(rest[head:], needs)):
+            return rest
+    return args
+
+
 def one_file(crate, path, folder, table):
     said = []
     text = open(path, encoding='utf-8').read()
@@ -250,6 +265,7 @@ def one_file(crate, path, folder, table):
     args = split_args(body[at + len('(tie.spec'):j])
     loops = table[key]['loops']
     needs = table[key]['needs']
+    args = without_settled(args, needs, 2 * len(loops), len(table[key]['settled']))
     k = len(args) - len(needs)
     inv = []
     if k < 0 or k > 2 * max(1, len(loops)) or (k and not loops):

@@ -34,7 +34,7 @@ overflow_add-o c = omega (arith, (begun (goal.at.overflow_add-o c).In-Data).0)
 
 pub copy_from-requires : goal.copy_from-requires
 copy_from-requires c =
-    let a = c.args in let g = c.start-1.given.0 in subst (λ (n : ℕ). FitsText n (a.o + g.1.0) (continuations a.s.now (g.0 + g.1.0))) (sym c.put_part.auto.text.0) (begun (goal.at.copy_from-requires c).In-Data).2
+    let a = c.args in subst (λ (n : ℕ). FitsText n (a.o + c.in-Data.len) (continuations a.s.now (c.in-Data.start + c.in-Data.len))) (sym c.put_part.auto.text) (begun (goal.at.copy_from-requires c).In-Data).2
 
 pub returns-in-Data : goal.returns-in-Data
 returns-in-Data c =

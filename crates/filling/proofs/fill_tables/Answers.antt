@@ -9,15 +9,14 @@ use Rattle.lists.specs.Promise.{texts_of, list_of}
 use Rattle.filling.specs.Filling.{tokens_in, added}
 use Rattle.filling.proofs.Filled.{Filled, filled_room, filled_next, filled_end}
 use Rattle.filling.proofs.fill_tables.Goals as goal
+use Rattle.filling.proofs.fill_tables.Goals.{After-put_read-g}
 
-turned : (c : tie.After-put-read invariant_loop decreases_loop) →
-    let a = c.before.before.before.before.before.before.before.before.before.args in let o = c.before.before.before.before.before.loop in let i = o.invariant in let r = c.put-read.result in let last = c.put-read.new.1.1.1 in
-    Filled (tokens_in a.s.now) a.s.now a.list.now last.0 a.text.now last.1.1.0 (i.0 - 1) r.at r.p r.o (i.1 ++ added a.s.now o.at c.before.before.before.read-token.result) × (o.at < r.at)
+turned : (c : After-put_read-g) →
+    let a = c.args in let o = c.loop-at in let i = o.invariant in let r = c.put_read-g.result in
+    Filled (tokens_in a.s.now) a.s.now a.list.now c.put_read-g.new.list a.text.now c.put_read-g.new.text (i.0 - 1) r.at r.p r.o (i.1 ++ added a.s.now o.at c.read_token.result) × (o.at < r.at)
 turned c =
-    let s = c.before.before.before.before.before.before.before.before.before.args.s.now in
-    let kept = c.put-read.auto.1.1.1 in
-    let told = token_says s c.before.before.before.before.before.loop.at (λ i. omega (arith, c.before.before.before.before.before.before.before.before.shared-slice-known.given i)) (omega arith) in
-    filled_next c.before.before.before.before.before.loop.invariant.2 c.before.before.before.before.before.before.before.before.before.requires.0 c.before.before.before.before.before.before.before.before.before.requires.1 (omega arith) c.before.before.before.read-token.ensures told c.put-read.ensures kept.0 kept.1.1.0
+    let told = token_says c.args.s.now c.loop-at.at (λ i. omega (arith, c.type_inv.s i)) (omega arith) in
+    filled_next c.loop-at.invariant.2 c.requires.0 c.requires.1 (omega arith) c.read_token.ensures told c.put_read-g.ensures c.put_read-g.auto.list c.put_read-g.auto.text
 
 pub loop-at-init : goal.loop-at-init
 unfolding list_of texts_of
@@ -31,11 +30,11 @@ pub put_read-g-requires : goal.put_read-g-requires
 put_read-g-requires c = filled_room c.loop-at.invariant.2 c.requires.0 c.requires.1 (omega arith) c.read_token.ensures
 
 pub loop-at-smaller : goal.loop-at-smaller
-loop-at-smaller c = omega (arith, (turned c).1)
+loop-at-smaller c = omega (arith, (turned (goal.at.loop-at-smaller c).After-put_read-g).1)
 
 pub loop-at-preserved : goal.loop-at-preserved
 loop-at-preserved c =
-    let o = c.loop-at in (o.invariant.0 - 1, o.invariant.1 ++ added c.args.s.now o.at c.read_token.result, (turned c).0)
+    let o = c.loop-at in (o.invariant.0 - 1, o.invariant.1 ++ added c.args.s.now o.at c.read_token.result, (turned (goal.at.loop-at-preserved c).After-put_read-g).0)
 
 pub shape_of-list : goal.shape_of-list
 shape_of-list c = c.loop-at.invariant.2.list_same

@@ -1,21 +1,26 @@
 -- `put_read` meets its contract, kind by kind. Assumes nothing.
-use mathlib.Core.Path.{sym, subst}
+use Prim.Native.Nat.{ℕ, ◌<◌, ◌≤◌}
+use lib.ListN.{length, get_or}
+use mathlib.Core.List.{List}
+use Rattle.tokens.specs.declared.Read.{Read}
+use Rattle.tokens.specs.Token.{token_at}
+use mathlib.Core.Path.{◌≡◌, sym, subst}
 use mathlib.Core.Bool.{true, false}
 use native.Mathlib.Omega.{arith}
 use Rattle.tokens.proofs.Theorems.{token_says}
 use Rattle.tokens.proofs.Told.{Told}
 use Rattle.filling.proofs.Placing.{IsText, identifier_is, string_is, number_room, number_put, operator_room, operator_put, comment_put, no_refusal, text_end, text_ok, text_put}
 use Rattle.filling.proofs.put_read.Goals as goal
-use Rattle.filling.proofs.put_read.Goals.{After-slice_known-2-1, In-Identifier, In-String}
+use Rattle.filling.proofs.put_read.Goals.{In-Identifier, In-String}
 
-known : (c : After-slice_known-2-1) → let a = c.args in Told a.s.now a.at a.t
-known c = let a = c.args in subst (Told a.s.now a.at) (sym c.requires.is_there) (token_says a.s.now a.at (λ i. omega (arith, c.type_inv.s i)) (omega (arith, c.requires.inside)))
+known : (s : List ℕ) (at : ℕ) (t : Read) → ((i : ℕ) → get_or s i 0 < 256) → at ≤ length s → t ≡ token_at s at → Told s at t
+known s at t b h e = subst (Told s at) (sym e) (token_says s at b h)
 
 name : (c : In-Identifier) → let a = c.args in IsText a.s.now a.at a.t true 2 c.in-Identifier.len c.in-Identifier.next
-name c = let a = c.args in identifier_is a.s.now a.at a.t (known c) c.in-Identifier.is
+name c = let a = c.args in identifier_is a.s.now a.at a.t (known _ _ _ (λ i. omega (arith, c.type_inv.s i)) (omega (arith, c.requires.inside)) c.requires.is_there) c.in-Identifier.is
 
 text : (c : In-String) → let a = c.args in IsText a.s.now a.at a.t false 3 c.in-String.count c.in-String.next
-text c = let a = c.args in string_is a.s.now a.at a.t (known c) c.in-String.is
+text c = let a = c.args in string_is a.s.now a.at a.t (known _ _ _ (λ i. omega (arith, c.type_inv.s i)) (omega (arith, c.requires.inside)) c.requires.is_there) c.in-String.is
 
 pub put_number-requires : goal.put_number-requires
 put_number-requires c = number_room c.requires c.in-Number.is

@@ -13,7 +13,7 @@ returns-in-Number-y c =
 pub returns-in_default-y : goal.returns-in_default-y
 unfolding test_effect
 returns-in_default-y c =
-    (c.whether-in_default-y.ensures.0 ∙ eq_number _ c.args.y c.in-Number.is c.in_default-y.not-Number-y, c.whether-in_default-y.ensures.1)
+    (c.whether-in_default-y.ensures.0 ∙ eq_number _ c.args.y c.in-Number.is c.in_default-y.not-Number, c.whether-in_default-y.ensures.1)
 
 pub returns-in-Identifier-y : goal.returns-in-Identifier-y
 unfolding test_effect
@@ -22,9 +22,9 @@ returns-in-Identifier-y c = (eq_identifiers _ _ _ _ _ _ c.in-Identifier.is c.in-
 pub returns-in_default-y-2 : goal.returns-in_default-y-2
 unfolding test_effect
 returns-in_default-y-2 c =
-    (c.whether-in_default-y-2.ensures.0 ∙ eq_identifier _ _ _ c.args.y c.in-Identifier.is c.in_default-y-2.not-Identifier-y, c.whether-in_default-y-2.ensures.1)
+    (c.whether-in_default-y-2.ensures.0 ∙ eq_identifier _ _ _ c.args.y c.in-Identifier.is c.in_default-y-2.not-Identifier, c.whether-in_default-y-2.ensures.1)
 
 pub returns-in_default : goal.returns-in_default
 unfolding test_effect
 returns-in_default c =
-    (c.whether-in_default.ensures.0 ∙ eq_never c.args.x c.args.y c.in_default.not-Identifier, c.whether-in_default.ensures.1)
+    (c.whether-in_default.ensures.0 ∙ eq_never c.args.x c.args.y c.in_default.not-Number c.in_default.not-Identifier, c.whether-in_default.ensures.1)
