@@ -4,8 +4,6 @@ use native.Mathlib.Omega.{arith}
 use mathlib.Core.Path.{◌≡◌, refl, sym, subst, ◌∙◌}
 use mathlib.Core.List.{List, [], ◌∷◌}
 use lib.ListN.{length, get_or}
-use types.Run.{OneOf, miss}
-use denote.Enum.Declared.{tag_of}
 use Rattle.numbers.specs.declared.Number as num
 use Rattle.tokens.specs.declared.Refusal.{Refusal}
 use Rattle.tokens.specs.declared.Read.{Read}
@@ -14,7 +12,6 @@ use Rattle.tokens.specs.declared.Form.TheVariants as form
 use Rattle.tokens.specs.Token.{token_at}
 use Rattle.tokens.proofs.Told.{Tells}
 use Rattle.tokens.proofs.Theorems.{token_tells_all}
-use Rattle.machine.specs.contracts.Role.{the_type}
 use Rattle.machine.specs.declared.Role.{Role}
 use Rattle.machine.specs.declared.Role.TheVariants as role
 use Rattle.machine.specs.declared.Went.{Went}
@@ -46,12 +43,9 @@ module _ (b : List ℕ) (n next : ℕ) (w : Went) (d : Due) (e : w ≡ body_at m
 
 -- ---- an operator, by its role
 
-pub no_holder : (r : Role) → OneOf (0 ∷ 2 ∷ 3 ∷ []) (tag_of the_type r) → r ≡ role.Holds → ⊥
-no_holder r h e = miss (0 ∷ 2 ∷ 3 ∷ []) 1 tt (subst (λ (x : Role). OneOf (0 ∷ 2 ∷ 3 ∷ []) (tag_of the_type x)) e h)
-
-none_found : (b : List ℕ) (n next : ℕ) (r : Role) → OneOf (1 ∷ 2 ∷ 3 ∷ []) (tag_of the_type r) → (r ≡ role.Holds → ⊥) → operator_by r b n next ≡ nothing_at b
+none_found : (b : List ℕ) (n next : ℕ) (r : Role) → (r ≡ role.Plain → ⊥) → (r ≡ role.Holds → ⊥) → operator_by r b n next ≡ nothing_at b
 unfolding operator_by
-none_found b n next role.Plain h f = absurd (miss (1 ∷ 2 ∷ 3 ∷ []) 0 tt h)
+none_found b n next role.Plain h f = absurd (h refl)
 none_found b n next role.Holds h f = absurd (f refl)
 none_found b n next role.Closes h f = refl
 none_found b n next role.Barred h f = refl
@@ -66,7 +60,7 @@ module _ (b : List ℕ) (n next : ℕ) (r : Role) (d : Due) (e : r ≡ role_of n
   as_holder f k = rw (← e, f) k
 
   -- a role that is neither of these
-  pub as_none : OneOf (1 ∷ 2 ∷ 3 ∷ []) (tag_of the_type r) → (r ≡ role.Holds → ⊥) → Is (nothing_at b) d → Is (operator_by (role_of n) b n next) d
+  pub as_none : (r ≡ role.Plain → ⊥) → (r ≡ role.Holds → ⊥) → Is (nothing_at b) d → Is (operator_by (role_of n) b n next) d
   as_none h f k = rw (← e, none_found b n next r h f) k
 
 -- ---- a token

@@ -1,0 +1,18 @@
+use Rattle.passing.proofs.Knowing.{text_there, name_there}
+use Rattle.literals.proofs.Standing.{stands_reads}
+use Rattle.literals.proofs.Finding.{name_inside, is_name_lem, is_text}
+use mathlib.Core.Path.{refl, sym, ◌∙◌}
+use native.Mathlib.Omega.{arith}
+use Rattle.literals.proofs.reading.due_sequence.Goals as goal
+
+pub returns-then-kind-eq-TEXT : goal.returns-then-kind-eq-TEXT
+returns-then-kind-eq-TEXT c =
+    is_text _ _ _ refl _ _ _ _ (text_there _ _ c.requires.1.1 (stands_reads _ c.requires.2) _ c.extent-x.ensures (sym c.low5-kind.ensures ∙ c.if-kind-eq-TEXT.true)) c.word.ensures c.found.ensures
+
+pub word-requires-then-kind-eq-NAME-2 : goal.word-requires-then-kind-eq-NAME-2
+word-requires-then-kind-eq-NAME-2 c =
+    omega (arith, name_inside _ _ _ refl _ _ (name_there _ _ c.requires.1.1 (stands_reads _ c.requires.2) _ c.extent-x-then-kind-eq-NAME.ensures (sym c.low5-kind.ensures ∙ c.if-kind-eq-NAME.true)), c.requires.0)
+
+pub returns-then-kind-eq-NAME : goal.returns-then-kind-eq-NAME
+returns-then-kind-eq-NAME c =
+    is_name_lem _ _ _ refl _ _ _ _ _ (name_there _ _ c.requires.1.1 (stands_reads _ c.requires.2) _ c.extent-x-then-kind-eq-NAME.ensures (sym c.low5-kind.ensures ∙ c.if-kind-eq-NAME.true)) c.word-then-kind-eq-NAME.ensures c.word-then-kind-eq-NAME-2.ensures c.found-then-kind-eq-NAME.ensures
