@@ -146,8 +146,6 @@ def flat(text, names, place, said, top='c', goal=None, takers=()):
                             rest[1] = turn[rest[1]]
                     elif norm(f) in GLOBALS:
                         rest[0] = norm(f)
-                    elif len(rest) > 1 and rest[1] == 'given':
-                        rest = ['auto', f.rstrip('0123456789')]
                     elif names.above(place, f):
                         q = names.above(place, f)
                         armed = names.arm(q, rest)
