@@ -2,7 +2,7 @@
 -- into the table. Assumes nothing.
 use Prim.Native.Nat.{ℕ, suc, ◌+◌, ◌-◌, ◌%◌, ◌≤◌, ◌<◌}
 use native.Mathlib.Omega.{arith}
-use mathlib.Core.Path.{◌≡◌, refl, sym, ap, ◌∙◌}
+use mathlib.Core.Path.{◌≡◌, refl, sym, ap, subst, ◌∙◌}
 use mathlib.Core.Bool.{Bool, true, false}
 use mathlib.Core.List.{List, []}
 use mathlib.Core.Option.{none}
@@ -233,9 +233,12 @@ module _ {b w₀ w : List ℕ} {r₀ r : Registers} {at most clear p left : ℕ}
         stays = o.here;
         ends = o.ends;
         idle = o.idle;
-        here = λ h. rw (← o.same) (o.on code n eb (nc h));
-        falls = λ h. rw (← o.same) (o.on code n eb (fa h).0, (fa h).1 code);
-        does = λ h. rw (← o.same) (o.off code n eb h);
+        here = λ h. o.on code n eb (nc h) ∙ ap (λ (x : Registers). ahead p (n + (most - left)) (abs w x)) o.same;
+        falls =
+            λ h.
+            (o.on code n eb (fa h).0 ∙ ap (λ (x : Registers). ahead p (n + (most - left)) (abs w x)) o.same,
+            λ q m. subst (λ (x : Registers). execute code (found_at b p).literal (ahead q m (abs w x)) ≡ none) o.same ((fa h).1 code q m));
+        does = λ h. o.off code n eb h ∙ ap (λ (x : Registers). settle (ahead (solid b p) (n + (most - left)) (abs w x))) o.same;
       })
 
   module _ {w' : List ℕ} (t : Stride) (d : Strides clear b p w r w' t) (few : t.height ≤ 128) (more : 0 < left) where
@@ -290,5 +293,5 @@ module _ {b w₀ w : List ℕ} {r₀ r : Registers} {at most clear p left : ℕ}
           idle = λ h. absurd (omega (arith, o.within));
           here = λ h. absurd (h refl);
           falls = λ h. not_on h;
-          does = λ h. rw (← anew) (rolled code n eb);
+          does = λ h. rolled code n eb ∙ ap (λ (x : Registers). settle (ahead (solid b t.next) (n + (most - (left - 1))) (abs w' x))) anew;
         }

@@ -181,9 +181,9 @@ module _ (n : ℕ) (a b : num.Number) (r : Answer) where
   gives_number c x y e ex ey i = rw (ex, ey) (rw e at i)
 
 -- or that there is none
-pub fails_number : (n : ℕ) (a b : num.Number) (r : Answer) (x y : Value) → OneOf (1 ∷ 2 ∷ []) (tag_of answer_type r) → x ≡ Number b → y ≡ Number a → answered r ≡ effect_of (op_of n) (Number b) (Number a) → Fail ≡ effect_of (op_of n) x y
+pub fails_number : (n : ℕ) (a b : num.Number) (r : Answer) (x y : Value) → ((c : num.Number) → r ≡ Is c → ⊥) → x ≡ Number b → y ≡ Number a → answered r ≡ effect_of (op_of n) (Number b) (Number a) → Fail ≡ effect_of (op_of n) x y
 unfolding answered
-fails_number n a b (Is c) x y k ex ey i = absurd (miss (1 ∷ 2 ∷ []) 0 tt k)
+fails_number n a b (Is c) x y k ex ey i = absurd (k c refl)
 fails_number n a b TooLarge x y k ex ey i = rw (ex, ey) i
 fails_number n a b ByZero x y k ex ey i = rw (ex, ey) i
 
@@ -234,28 +234,6 @@ module _ (n : ℕ) where
   is_or (inr (inr (inl e))) f g h i = absurd (h e)
   is_or (inr (inr (inr (inl e)))) f g h i = absurd (i e)
   is_or (inr (inr (inr (inr e)))) f g h i = (rw e by_number.17, refl)
-
--- FGET and FSET, which lie side by side
-pub of_frame : (n : ℕ) → 20 ≤ n → n < 22 → OneOf (20 ∷ 21 ∷ []) n
-of_frame n a b = pick (ltb n 21) refl
-  where
-    pick : (k : Bool) → ltb n 21 ≡ k → OneOf (20 ∷ 21 ∷ []) n
-    pick true e = inl (omega (arith, ltb-true n 21 e))
-    pick false e = inr (omega (arith, ltb-false n 21 e))
-
--- those five, as the code tells them: three one by one, and the two that lie side by side
-module _ (n : ℕ) where
-  pub of_three : OneOf (202 ∷ 205 ∷ 213 ∷ []) n → OneOf (202 ∷ 205 ∷ 207 ∷ 208 ∷ 213 ∷ []) n
-  of_three (inl e) = inl e
-  of_three (inr (inl e)) = inr (inl e)
-  of_three (inr (inr e)) = inr (inr (inr (inr e)))
-
-  pub of_two_lem : 207 ≤ n → n < 209 → OneOf (202 ∷ 205 ∷ 207 ∷ 208 ∷ 213 ∷ []) n
-  of_two_lem a b = pick (ltb n 208) refl
-    where
-      pick : (k : Bool) → ltb n 208 ≡ k → OneOf (202 ∷ 205 ∷ 207 ∷ 208 ∷ 213 ∷ []) n
-      pick true e = inr (inr (inl (omega (arith, ltb-true n 208 e))))
-      pick false e = inr (inr (inr (inl (omega (arith, ltb-false n 208 e)))))
 
 -- ---- what they do
 

@@ -1,0 +1,29 @@
+use native.Mathlib.Omega.{arith}
+use mathlib.Core.Path.{refl, sym, ◌∙◌}
+use Rattle.literals.proofs.Finding.{name_inside}
+use Rattle.passing.proofs.Knowing.{name_there}
+use Rattle.sprints.proofs.Rows.{strides_none, strides_name, strides_figure, sequence_read}
+use Rattle.sprints.proofs.Swiftly.{figure_flat, name_flat, by_figure, by_name}
+use Rattle.sprints.proofs.Level.{flat_of}
+use Rattle.sprints.proofs.sequence.Goals as goal
+
+pub returns-then-not-is_solid : goal.returns-then-not-is_solid
+returns-then-not-is_solid c = strides_none _ _ _ c.undone.ensures
+
+pub returns-then-low5-eq-TEXT : goal.returns-then-low5-eq-TEXT
+returns-then-low5-eq-TEXT c = strides_none _ _ _ c.undone-then-low5-eq-TEXT.ensures
+
+pub word-requires-then-low5-eq-NAME : goal.word-requires-then-low5-eq-NAME
+word-requires-then-low5-eq-NAME c =
+    omega (arith, name_inside _ _ _ refl _ _ (name_there _ _ c.requires.2.1 c.requires.3.0 _ c.extent-x.ensures (sym c.low5-2.ensures ∙ c.if-low5-eq-NAME.true)), c.requires.0)
+
+pub returns-then-low5-eq-NAME : goal.returns-then-low5-eq-NAME
+returns-then-low5-eq-NAME c =
+    strides_name _ _ _ _ _ _ (name_there _ _ c.requires.2.1 c.requires.3.0 _ c.extent-x.ensures (sym c.low5-2.ensures ∙ c.if-low5-eq-NAME.true)) c.word.ensures c.word-then-low5-eq-NAME.ensures (λ code. flat_of code _ (name_flat _ _ _) _ _ c.height_of-height.ensures (by_name code _ _ _ refl c.push_name.ensures))
+
+pub returns-in-Number : goal.returns-in-Number
+returns-in-Number c =
+    strides_figure _ _ _ _ (sequence_read _ _ c.requires.2.1 c.requires.3.0 _ _ c.sequence_at.ensures c.in-Number.is) (λ code. flat_of code _ (figure_flat _ _) _ _ c.height_of-height-in-Number.ensures (by_figure code _ _ refl c.push_number.ensures))
+
+pub returns-in_default : goal.returns-in_default
+returns-in_default c = strides_none _ _ _ c.undone-in_default.ensures
