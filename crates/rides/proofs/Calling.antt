@@ -24,7 +24,7 @@ use Rattle.machine.specs.Ops.Call.{called, call_effect}
 use Rattle.machine.specs.Contexts.{above, fault, settle}
 use Rattle.machine.specs.Engine.{call}
 use Rattle.machine.specs.Step.{execute, executed, begun_in, begun}
-use Rattle.operands.proofs.Reading.{no_operator}
+use Rattle.operands.proofs.Reading.{NoOperator, no_operator}
 use Rattle.machine.specs.contracts.Value.{the_type}
 use Rattle.state.specs.declared.Registers.{Registers}
 use Rattle.state.specs.declared.Tops.{Tops}
@@ -42,7 +42,7 @@ do_one : (1 ≡ arity_of (Calls Do)) × (1 ≤ 2)
 unfolding arity_of
 do_one = (refl, omega arith)
 
-calls_nothing : (x y : Value) → OneOf (0 ∷ 1 ∷ 2 ∷ []) (tag_of the_type x) → Fail ≡ effect_of (Calls Do) x y
+calls_nothing : (x y : Value) → NoOperator x → Fail ≡ effect_of (Calls Do) x y
 unfolding effect_of call_effect called
 calls_nothing x y h = no_operator x _ h
 
@@ -59,7 +59,7 @@ module _ {w : List ℕ} {r : Registers} (code : Code) (t : Tops) (g : Busy w r) 
     do_made {w'} {q} {r'} o s l f e eq d =
         plain_done code 231 1 (Calls Do) t g by_number.6 do_one et x (value_in t.second) (Acts (Call o s l f)) h ex refl (do_call o s l f x (value_in t.second) e) eq (is_acts code (Acts (Call o s l f)) (Call o s l f) refl (by_call code (Call o s l f) o s l f refl d))
 
-    pub do_fails : {r' : Registers} → OneOf (0 ∷ 1 ∷ 2 ∷ []) (tag_of the_type x) → r' ≡ failed r → Tried (execute code (Plain 231)) w r w r'
+    pub do_fails : {r' : Registers} → NoOperator x → r' ≡ failed r → Tried (execute code (Plain 231)) w r w r'
     do_fails {r'} bad q =
         plain_fails code 231 1 (Calls Do) t g by_number.6 do_one et x (value_in t.second) h ex refl (calls_nothing x (value_in t.second) bad) q
 

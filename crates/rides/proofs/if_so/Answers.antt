@@ -1,0 +1,24 @@
+use mathlib.Core.List.{[]}
+use mathlib.Core.Path.{refl}
+use Rattle.state.proofs.Stacking.{tops_fit}
+use Rattle.rides.proofs.Holding.{if_few, if_fails, if_passes, if_enters}
+use Rattle.rides.proofs.if_so.Goals as goal
+
+pub returns-then-t-lt1 : goal.returns-then-t-lt1
+returns-then-t-lt1 c =
+    ((if_few [] 0 0 _ c.requires.0 c.tops-t.ensures c.if-t-lt1.true c.failed.ensures).busy, λ code eb. if_few code _ _ _ c.requires.0 c.tops-t.ensures c.if-t-lt1.true c.failed.ensures)
+
+pub overflow_sub-q : goal.overflow_sub-q
+overflow_sub-q c = tops_fit _ _ _ _ c.tops-t.ensures c.if-t-lt1.false
+
+pub returns-then-i-eq0 : goal.returns-then-i-eq0
+returns-then-i-eq0 c =
+    ((if_passes [] 0 0 _ c.requires.0 c.tops-t.ensures c.if-t-lt1.false _ c.value_of-x.ensures _ c.cardinal.ensures.0 _ c.in-Is.is _ refl c.if-i-eq0.true c.done.ensures).busy, λ code eb. if_passes code _ _ _ c.requires.0 c.tops-t.ensures c.if-t-lt1.false _ c.value_of-x.ensures _ c.cardinal.ensures.0 _ c.in-Is.is _ refl c.if-i-eq0.true c.done.ensures)
+
+pub returns-in-No : goal.returns-in-No
+returns-in-No c =
+    ((if_fails [] 0 0 _ c.requires.0 c.tops-t.ensures c.if-t-lt1.false _ c.value_of-x.ensures _ c.cardinal.ensures.0 c.in-No.is c.failed-in-No.ensures).busy, λ code eb. if_fails code _ _ _ c.requires.0 c.tops-t.ensures c.if-t-lt1.false _ c.value_of-x.ensures _ c.cardinal.ensures.0 c.in-No.is c.failed-in-No.ensures)
+
+pub returns-else-i-eq0 : goal.returns-else-i-eq0
+returns-else-i-eq0 c =
+    (c.enter_if.ensures.0, λ code eb. if_enters code _ _ _ c.requires.0 c.tops-t.ensures c.if-t-lt1.false _ c.value_of-x.ensures _ c.cardinal.ensures.0 _ c.in-Is.is _ refl c.if-i-eq0.false (c.enter_if.ensures.1 code eb))
