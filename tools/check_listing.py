@@ -1,5 +1,5 @@
 #!/usr/bin/env python3
-"""check_listing.py: run the program `pages`, as `rt check pages` builds it, on every listing case of tools/cases/*.jsonl, and compare.
+"""check_listing.py: run the program `pages`, as `tools/program pages` builds it, on every listing case of tools/cases/*.jsonl, and compare.
 
 A listing case has the call ["pages"], the master in hex as `in` and the listing as `want`. Three more are made here: the
 most pages, whose listing is longer than the program's buffer; the longest master, most of it a comment; and one byte more."""

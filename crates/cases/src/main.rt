@@ -2,9 +2,11 @@
 // the file and says what a record is.
 #![tactic(auto)]
 
-ghost use Rattle.std.specs.Prelude.{◌<◌, ◌≤◌, length};
+ghost use Rattle.std.specs.Prelude.{◌<◌, ◌≤◌, length, take, IfOk};
+ghost use Rattle.std.specs.Io.KnownBytes.{Consumes, IsAtEnd};
 
-use libc::STDOUT_FILENO;
+use std::io::Read;
+use std::{fs, io};
 use tokens::Outcome;
 
 // What every byte of a lent table holds before a call.
@@ -238,17 +240,23 @@ fn least(a: usize, b: usize) -> usize
     if a < b { a } else { b }
 }
 
-fn run_case(record: &[u8], first: &mut [u8], second: &mut [u8], third: &mut [u8]) -> bool {
+fn run_case(
+    rt: &impl Print,
+    record: &[u8],
+    first: &mut [u8],
+    second: &mut [u8],
+    third: &mut [u8],
+) -> io::Result<bool> {
     let a = least(number_at(record, FIRST), first.len());
     let b = least(number_at(record, SECOND), second.len());
     let c = least(number_at(record, THIRD), third.len());
     if is_right(record, &mut first[..a], &mut second[..b], &mut third[..c]) {
-        return true;
+        return Ok(true);
     }
-    io::write_all(STDOUT_FILENO, b"wrong: ");
-    io::write_all(STDOUT_FILENO, nth_text(record, 0));
-    io::write_all(STDOUT_FILENO, b"\n");
-    false
+    rt.write_all(b"wrong: ")?;
+    rt.write_all(nth_text(record, 0))?;
+    rt.write_all(b"\n")?;
+    Ok(false)
 }
 
 #[derive(Clone, Copy)]
@@ -258,40 +266,57 @@ struct Counts {
 }
 
 // Runs the cases one after another.
-fn run_all(bytes: &[u8], first: &mut [u8], second: &mut [u8], third: &mut [u8]) -> Counts {
+fn run_all(
+    rt: &impl Print,
+    bytes: &[u8],
+    first: &mut [u8],
+    second: &mut [u8],
+    third: &mut [u8],
+) -> io::Result<Counts> {
     let mut at: usize = 0;
     let mut right: usize = 0;
     let mut wrong: usize = 0;
     while at < bytes.len() {
-        if run_case(text_at(bytes, at), first, second, third) {
+        if run_case(rt, text_at(bytes, at), first, second, third)? {
             right += 1;
         } else {
             wrong += 1;
         }
         at = after_text(bytes, at);
     }
-    Counts { right, wrong }
+    Ok(Counts { right, wrong })
 }
 
-fn say(counts: Counts) {
-    io::print_decimal(STDOUT_FILENO, counts.right as u64);
-    io::write_all(STDOUT_FILENO, b" right, ");
-    io::print_decimal(STDOUT_FILENO, counts.wrong as u64);
-    io::write_all(STDOUT_FILENO, b" wrong\n");
+fn say(rt: &impl Print, counts: Counts) -> io::Result<()> {
+    println!(rt; "{} right, {} wrong", counts.right, counts.wrong)
 }
 
-fn main() {
-    let path = b"cases";
-    let file = os::open_read(path);
-    if file < 0 {
-        os::fail(path);
-        return;
+// Reads until the bytes are full or the input ends, and answers how many it put in front.
+fn read_full<R: Read>(reader: &mut R, bytes: &mut [u8]) -> io::Result<usize>
+    ensures in_bounds { IfOk result (λ n. n ≤ length bytes.new) }
+    ensures front { IfOk result (λ n. Consumes (R.remaining reader.old) (R.remaining reader.new) (take n bytes.new)) }
+    ensures end { IfOk result (λ n. n < length bytes.new → IsAtEnd (R.remaining reader.new)) }
+{
+    let mut done: usize = 0;
+    while done < bytes.len() {
+        let n = reader.read(&mut bytes[done..])?;
+        if n == 0 {
+            return Ok(done);
+        }
+        done += n;
     }
+    Ok(done)
+}
+
+fn main(rt: HostRuntime) -> io::Result<()> {
+    let path = "cases";
+    let mut file = fs::open(&rt, path)?;
     let mut bytes = [0u8; 196608];
-    let n = io::read_full(file, &mut bytes);
-    libc::close(file);
+    let n = read_full(&mut file, &mut bytes)?;
+    drop(file);
     let mut first = [0u8; 49152];
     let mut second = [0u8; 16384];
     let mut third = [0u8; 24576];
-    say(run_all(&bytes[..n], &mut first, &mut second, &mut third));
+    let counts = run_all(&rt, &bytes[..n], &mut first, &mut second, &mut third)?;
+    say(&rt, counts)
 }

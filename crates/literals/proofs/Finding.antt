@@ -1,8 +1,8 @@
 -- The literal at a place, arm by arm of the reader, and the numbers that must fit a word. Assumes nothing.
 use Prim.Native.Nat.{ℕ, ◌+◌, ◌-◌, ◌<◌, ◌≤◌}
 use native.Mathlib.Omega.{arith}
-use mathlib.Core.Path.{◌≡◌, refl, sym, subst, ◌∙◌}
-use mathlib.Core.List.{List, [], ◌∷◌}
+use mathlib.Core.Path.{◌≡◌, refl, sym, ◌∙◌}
+use mathlib.Core.List.{List}
 use lib.ListN.{length, get_or}
 use Rattle.numbers.specs.declared.Number as num
 use Rattle.tokens.specs.declared.Refusal.{Refusal}

@@ -10,7 +10,7 @@ use Rattle.tokens.specs.declared.Read.{Read}
 use Rattle.tokens.specs.declared.Read.TheVariants.{Number, Identifier, String, Operator, Comment, Unread}
 use Rattle.tokens.specs.Token.{token_at}
 use Rattle.numbers.proofs.Cond.{either}
-use Rattle.tokens.proofs.Told.{Tells, Text, Spans}
+use Rattle.tokens.proofs.Told.{Tells, Spans}
 use Rattle.tokens.proofs.Theorems.{token_tells_all}
 use Rattle.machine.specs.declared.Role.{Role}
 use Rattle.machine.specs.declared.Role.TheVariants as role

@@ -11,7 +11,6 @@ use Rattle.tokens.specs.declared.Read.TheVariants as read
 use Rattle.tokens.specs.Format.{header, starts}
 use Rattle.tokens.specs.Token.{token_at}
 use Rattle.numbers.proofs.Cond.{either}
-use Rattle.machine.specs.declared.Role.TheVariants as role
 use Rattle.machine.specs.declared.Went.{Went}
 use Rattle.machine.specs.declared.Went.TheVariants.{Past, Stop}
 use Rattle.machine.specs.declared.Literal.{Literal}

@@ -19,7 +19,7 @@ use Rattle.machine.specs.declared.Value.{Value}
 use Rattle.machine.specs.State.{Entry, val, mark, State, running}
 use Rattle.machine.specs.Contexts.{above, beneath, over}
 use Rattle.machine.specs.Operand.{natural}
-use Rattle.machine.specs.Engine.{limited, provided, with_stack, push, has, place, remove_at, remove, tally_at, tally}
+use Rattle.machine.specs.Engine.{limited, provided, with_stack, push, place, remove_at, remove, tally_at, tally}
 use Rattle.state.specs.declared.Registers.{Registers}
 use Rattle.state.specs.Layout.{value_in, entry_in, stack_of, context_in, contexts_of, abs, Busy, Tried}
 use lib.ListN.{drop_of_length-le}

@@ -6,7 +6,7 @@ use mathlib.Core.Logic.{inl, inr}
 use Prim.Native.Nat.{ℕ}
 use borrow.Author.Tests.{eq-eqb, ne_eqb}
 use lib.Dec.{eqb}
-use types.Run.{OneOf, miss}
+use types.Run.{OneOf}
 use Rattle.numbers.specs.declared.Number as num
 use Rattle.numbers.specs.Arith.{order_of}
 use Rattle.machine.specs.declared.Value.{Value}

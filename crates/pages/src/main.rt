@@ -1,13 +1,17 @@
 // Lists the master on standard input: the preamble as page 0, then every page. In order: a section; a page; all of them.
 #![tactic(auto)]
 
+ghost use Rattle.std.specs.Prelude.{◌<◌, ◌≤◌, length, take, IfOk};
+ghost use Rattle.std.specs.Io.KnownBytes.{Consumes, IsAtEnd};
+
 mod texts; // text put into a buffer
 mod values; // a value as text
 
 use crate::texts::{BUFFER, put_byte, put_named, put_text};
 use crate::values::{part, put_value, rest, word_at};
-use libc::STDIN_FILENO;
 use skeleton::pages::PLACES;
+use std::io;
+use std::io::Read;
 use tokens::Outcome;
 use tokens::refusals::{answer_number, answer_value, refused};
 
@@ -38,15 +42,22 @@ const FRAME: usize = 50 * VALUE;
 const BODIES: usize = PLACES / 2;
 
 // A value to a line.
-fn put_values(out: &mut [u8; BUFFER], at: usize, pre: &[u8], body: &[u8], list: &[u8]) -> usize {
+fn put_values(
+    rt: &impl Print,
+    out: &mut [u8; BUFFER],
+    at: usize,
+    pre: &[u8],
+    body: &[u8],
+    list: &[u8],
+) -> io::Result<usize> {
     let mut p = at;
     let mut from: usize = 0;
     while from < list.len() {
-        p = put_value(out, p, pre, body, part(list, from, VALUE));
-        p = put_byte(out, p, b'\n');
+        p = put_value(rt, out, p, pre, body, part(list, from, VALUE))?;
+        p = put_byte(rt, out, p, b'\n')?;
         from += VALUE;
     }
-    p
+    Ok(p)
 }
 
 // How many elements of a frame are not the number 0.
@@ -64,39 +75,54 @@ fn changed(frame: &[u8]) -> usize {
 
 // Element k of a frame, if it is not the number 0.
 fn put_element(
+    rt: &impl Print,
     out: &mut [u8; BUFFER],
     at: usize,
     pre: &[u8],
     body: &[u8],
     k: usize,
     value: &[u8],
-) -> usize {
+) -> io::Result<usize> {
     if values::is_zero(value) {
-        return at;
+        return Ok(at);
     }
-    let p = texts::put_count(out, at, k);
-    let q = put_byte(out, p, b' ');
-    let r = put_value(out, q, pre, body, value);
-    put_byte(out, r, b'\n')
+    let p = texts::put_count(rt, out, at, k)?;
+    let q = put_byte(rt, out, p, b' ')?;
+    let r = put_value(rt, out, q, pre, body, value)?;
+    put_byte(rt, out, r, b'\n')
 }
 
-fn put_elements(out: &mut [u8; BUFFER], at: usize, pre: &[u8], body: &[u8], frame: &[u8]) -> usize {
+fn put_elements(
+    rt: &impl Print,
+    out: &mut [u8; BUFFER],
+    at: usize,
+    pre: &[u8],
+    body: &[u8],
+    frame: &[u8],
+) -> io::Result<usize> {
     let mut p = at;
     let mut k: usize = 0;
     let mut from: usize = 0;
     while from < frame.len() {
-        p = put_element(out, p, pre, body, k, part(frame, from, VALUE));
+        p = put_element(rt, out, p, pre, body, k, part(frame, from, VALUE))?;
         k += 1;
         from += VALUE;
     }
-    p
+    Ok(p)
 }
 
 // The elements that are not the number 0, after their count.
-fn put_frame(out: &mut [u8; BUFFER], at: usize, pre: &[u8], body: &[u8], frame: &[u8]) -> usize {
-    let p = put_named(out, at, b"frame ", changed(frame));
-    let q = put_byte(out, p, b'\n');
-    put_elements(out, q, pre, body, frame)
+fn put_frame(
+    rt: &impl Print,
+    out: &mut [u8; BUFFER],
+    at: usize,
+    pre: &[u8],
+    body: &[u8],
+    frame: &[u8],
+) -> io::Result<usize> {
+    let p = put_named(rt, out, at, b"frame ", changed(frame))?;
+    let q = put_byte(rt, out, p, b'\n')?;
+    put_elements(rt, out, q, pre, body, frame)
 }
 
 // F, R or B.
@@ -108,51 +134,64 @@ fn letter(outcome: u32) -> u8 {
     }
 }
 
-fn put_row(out: &mut [u8; BUFFER], at: usize, page: usize, row: &[u8]) -> usize {
-    let p = put_named(out, at, b"page ", page);
-    let q = put_text(out, p, b" outcome ");
-    let r = put_byte(out, q, letter(word_at(row, 0)));
-    let e = put_named(out, r, b" errors ", table::words::size(word_at(row, 4)));
-    let s = put_named(out, e, b" steps ", table::words::size(word_at(row, 8)));
-    let c = put_named(out, s, b" cells ", table::words::size(word_at(row, 12)));
-    put_byte(out, c, b'\n')
+fn put_row(
+    rt: &impl Print,
+    out: &mut [u8; BUFFER],
+    at: usize,
+    page: usize,
+    row: &[u8],
+) -> io::Result<usize> {
+    let p = put_named(rt, out, at, b"page ", page)?;
+    let q = put_text(rt, out, p, b" outcome ")?;
+    let r = put_byte(rt, out, q, letter(word_at(row, 0)))?;
+    let e = put_named(rt, out, r, b" errors ", table::words::size(word_at(row, 4)))?;
+    let s = put_named(rt, out, e, b" steps ", table::words::size(word_at(row, 8)))?;
+    let c = put_named(rt, out, s, b" cells ", table::words::size(word_at(row, 12)))?;
+    put_byte(rt, out, c, b'\n')
 }
 
 // A count, and every value that follows it.
 fn put_list(
+    rt: &impl Print,
     out: &mut [u8; BUFFER],
     at: usize,
     name: &[u8],
     pre: &[u8],
     body: &[u8],
     section: &[u8],
-) -> usize {
+) -> io::Result<usize> {
     let count = table::words::size(word_at(section, 0));
-    let p = put_named(out, at, name, count);
-    let q = put_byte(out, p, b'\n');
-    put_values(out, q, pre, body, part(section, COUNT, VALUE * count))
+    let p = put_named(rt, out, at, name, count)?;
+    let q = put_byte(rt, out, p, b'\n')?;
+    put_values(rt, out, q, pre, body, part(section, COUNT, VALUE * count))
 }
 
 // Stack, frame and cells, each after its count.
 fn put_sections(
+    rt: &impl Print,
     out: &mut [u8; BUFFER],
     at: usize,
     pre: &[u8],
     body: &[u8],
     sections: &[u8],
-) -> usize {
+) -> io::Result<usize> {
     let stack = table::words::size(word_at(sections, 0));
     let frame = COUNT + VALUE * stack + COUNT;
     let cells = rest(sections, frame + FRAME);
-    let p = put_list(out, at, b"stack ", pre, body, sections);
-    let q = put_frame(out, p, pre, body, part(sections, frame, FRAME));
-    put_list(out, q, b"cells ", pre, body, cells)
+    let p = put_list(rt, out, at, b"stack ", pre, body, sections)?;
+    let q = put_frame(rt, out, p, pre, body, part(sections, frame, FRAME))?;
+    put_list(rt, out, q, b"cells ", pre, body, cells)
 }
 
-fn put_refusal(out: &mut [u8; BUFFER], at: usize, outcome: Outcome) -> usize {
-    let p = put_named(out, at, b"refused ", answer_number(outcome) as usize);
-    let q = put_named(out, p, b" at ", answer_value(outcome));
-    put_byte(out, q, b'\n')
+fn put_refusal(
+    rt: &impl Print,
+    out: &mut [u8; BUFFER],
+    at: usize,
+    outcome: Outcome,
+) -> io::Result<usize> {
+    let p = put_named(rt, out, at, b"refused ", answer_number(outcome) as usize)?;
+    let q = put_named(rt, out, p, b" at ", answer_value(outcome))?;
+    put_byte(rt, out, q, b'\n')
 }
 
 // The body between two places of a master.
@@ -165,6 +204,7 @@ fn body_of(s: &[u8], from: usize, end: usize) -> &[u8] {
 
 // Bodies 0 to `last`, each run anew for its sections.
 fn put_bodies(
+    rt: &impl Print,
     out: &mut [u8; BUFFER],
     s: &[u8],
     places: &[usize; PLACES],
@@ -172,26 +212,26 @@ fn put_bodies(
     scratch: &mut [u8; SCRATCH],
     rows: &mut [u8; ROWS],
     sections: &mut [u8; SECTIONS],
-) -> usize {
+) -> io::Result<usize> {
     let pre = body_of(s, places[0], places[1]);
     let mut p: usize = 0;
     let mut n: usize = 0;
     while n < BODIES && n <= last {
         let done = book::calls::reprint(s, ALLOWANCE, n as i64, scratch, rows, sections);
         if answer_number(done) != 0 {
-            return put_refusal(out, p, done);
+            return put_refusal(rt, out, p, done);
         }
-        p = put_row(out, p, n, part(rows, ROW * n, ROW));
+        p = put_row(rt, out, p, n, part(rows, ROW * n, ROW))?;
         let body = body_of(s, places[2 * n], places[2 * n + 1]);
-        p = put_sections(out, p, pre, body, sections);
+        p = put_sections(rt, out, p, pre, body, sections)?;
         n += 1;
     }
-    p
+    Ok(p)
 }
 
-fn put_listing(out: &mut [u8; BUFFER], s: &[u8]) -> usize {
+fn put_listing(rt: &impl Print, out: &mut [u8; BUFFER], s: &[u8]) -> io::Result<usize> {
     if LONGEST < s.len() {
-        return put_refusal(out, 0, refused(tokens::Refusal::TooLong, 0));
+        return put_refusal(rt, out, 0, refused(tokens::Refusal::TooLong, 0));
     }
     let mut scratch = [0u8; SCRATCH];
     let mut rows = [0u8; ROWS];
@@ -199,10 +239,11 @@ fn put_listing(out: &mut [u8; BUFFER], s: &[u8]) -> usize {
     let mut places = [0usize; PLACES];
     let ran = book::calls::run(s, ALLOWANCE, &mut scratch, &mut rows);
     if answer_number(ran) != 0 {
-        return put_refusal(out, 0, ran);
+        return put_refusal(rt, out, 0, ran);
     }
     skeleton::pages::survey(s, &mut places);
     put_bodies(
+        rt,
         out,
         s,
         &places,
@@ -213,10 +254,27 @@ fn put_listing(out: &mut [u8; BUFFER], s: &[u8]) -> usize {
     )
 }
 
-fn main() {
+// Reads until the bytes are full or the input ends, and answers how many it put in front.
+fn read_full<R: Read>(reader: &mut R, bytes: &mut [u8]) -> io::Result<usize>
+    ensures in_bounds { IfOk result (λ n. n ≤ length bytes.new) }
+    ensures front { IfOk result (λ n. Consumes (R.remaining reader.old) (R.remaining reader.new) (take n bytes.new)) }
+    ensures end { IfOk result (λ n. n < length bytes.new → IsAtEnd (R.remaining reader.new)) }
+{
+    let mut done: usize = 0;
+    while done < bytes.len() {
+        let n = reader.read(&mut bytes[done..])?;
+        if n == 0 {
+            return Ok(done);
+        }
+        done += n;
+    }
+    Ok(done)
+}
+
+fn main(rt: HostRuntime) -> io::Result<()> {
     let mut input = [0u8; LONGEST + 1];
     let mut out = [0u8; BUFFER];
-    let n = io::read_full(STDIN_FILENO, &mut input);
-    let p = put_listing(&mut out, &input[..n]);
-    texts::finish(&out, p);
+    let n = read_full(&mut rt.stdin(), &mut input)?;
+    let p = put_listing(&rt, &mut out, &input[..n])?;
+    texts::finish(&rt, &out, p)
 }

@@ -2,6 +2,7 @@
 use crate::texts;
 use crate::texts::BUFFER;
 use pieces::sequences;
+use std::io;
 use tokens::Piece;
 
 // `len` bytes from a place on; none where the bytes end before.
@@ -45,79 +46,98 @@ fn continues(b: &[u8], at: usize) -> bool {
 }
 
 // The text of the identifier token at `start`, with all that continues it.
-fn put_name(out: &mut [u8; BUFFER], at: usize, b: &[u8], start: usize) -> usize {
+fn put_name(
+    rt: &impl Print,
+    out: &mut [u8; BUFFER],
+    at: usize,
+    b: &[u8],
+    start: usize,
+) -> io::Result<usize> {
     let mut p = at;
     let mut q = start;
     while q < b.len() {
         match sequences::piece_at(b, q) {
             Piece::Missing => {
-                return p;
+                return Ok(p);
             }
             Piece::Data { start: from, len } => {
-                p = texts::put_lower(out, p, part(b, from, len));
+                p = texts::put_lower(rt, out, p, part(b, from, len))?;
                 q = from + len;
             }
         }
         if !continues(b, q) {
-            return p;
+            return Ok(p);
         }
     }
-    p
+    Ok(p)
 }
 
 // An identifier with origin 0 lies in the preamble, any other in the page's body.
 fn put_identifier(
+    rt: &impl Print,
     out: &mut [u8; BUFFER],
     at: usize,
     pre: &[u8],
     body: &[u8],
     value: &[u8],
-) -> usize {
-    let p = texts::put_text(out, at, b"i ");
+) -> io::Result<usize> {
+    let p = texts::put_text(rt, out, at, b"i ")?;
     let start = table::words::size(word_at(value, 8));
     if word_at(value, 4) == 0 {
-        return put_name(out, p, pre, start);
+        return put_name(rt, out, p, pre, start);
     }
-    put_name(out, p, body, start)
+    put_name(rt, out, p, body, start)
 }
 
-fn put_fraction(out: &mut [u8; BUFFER], at: usize, value: &[u8]) -> usize {
-    let p = texts::put_text(out, at, b"n ");
-    let q = texts::put_word(out, p, word_at(value, 4));
-    let r = texts::put_byte(out, q, b'/');
-    texts::put_word(out, r, word_at(value, 8))
+fn put_fraction(
+    rt: &impl Print,
+    out: &mut [u8; BUFFER],
+    at: usize,
+    value: &[u8],
+) -> io::Result<usize> {
+    let p = texts::put_text(rt, out, at, b"n ")?;
+    let q = texts::put_word(rt, out, p, word_at(value, 4))?;
+    let r = texts::put_byte(rt, out, q, b'/')?;
+    texts::put_word(rt, out, r, word_at(value, 8))
 }
 
-fn put_spaced(out: &mut [u8; BUFFER], at: usize, w: u32) -> usize {
-    let p = texts::put_byte(out, at, b' ');
-    texts::put_word(out, p, w)
+fn put_spaced(rt: &impl Print, out: &mut [u8; BUFFER], at: usize, w: u32) -> io::Result<usize> {
+    let p = texts::put_byte(rt, out, at, b' ')?;
+    texts::put_word(rt, out, p, w)
 }
 
 // A letter and the three words after the kind.
-fn put_three(out: &mut [u8; BUFFER], at: usize, letter: u8, value: &[u8]) -> usize {
-    let p = texts::put_byte(out, at, letter);
-    let q = put_spaced(out, p, word_at(value, 4));
-    let r = put_spaced(out, q, word_at(value, 8));
-    put_spaced(out, r, word_at(value, 12))
+fn put_three(
+    rt: &impl Print,
+    out: &mut [u8; BUFFER],
+    at: usize,
+    letter: u8,
+    value: &[u8],
+) -> io::Result<usize> {
+    let p = texts::put_byte(rt, out, at, letter)?;
+    let q = put_spaced(rt, out, p, word_at(value, 4))?;
+    let r = put_spaced(rt, out, q, word_at(value, 8))?;
+    put_spaced(rt, out, r, word_at(value, 12))
 }
 
 // A value is five words, the first its kind.
 pub fn put_value(
+    rt: &impl Print,
     out: &mut [u8; BUFFER],
     at: usize,
     pre: &[u8],
     body: &[u8],
     value: &[u8],
-) -> usize {
+) -> io::Result<usize> {
     match word_at(value, 0) {
-        1 => put_fraction(out, at, value),
-        2 => put_identifier(out, at, pre, body, value),
-        3 => put_three(out, at, b'v', value),
+        1 => put_fraction(rt, out, at, value),
+        2 => put_identifier(rt, out, at, pre, body, value),
+        3 => put_three(rt, out, at, b'v', value),
         4 => {
-            let p = put_three(out, at, b'o', value);
-            put_spaced(out, p, word_at(value, 16))
+            let p = put_three(rt, out, at, b'o', value)?;
+            put_spaced(rt, out, p, word_at(value, 16))
         }
-        _ => texts::put_byte(out, at, b'm'),
+        _ => texts::put_byte(rt, out, at, b'm'),
     }
 }
 

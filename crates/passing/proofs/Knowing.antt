@@ -13,7 +13,7 @@ use Rattle.numbers.specs.declared.Answer.{Answer}
 use Rattle.numbers.specs.declared.Answer.TheVariants.{Is, TooLarge, ByZero}
 use Rattle.numbers.proofs.Cond.{either, split}
 use Rattle.tokens.specs.declared.Read.{Read}
-use Rattle.tokens.specs.declared.Read.TheVariants.{Number, Identifier, String, Operator, Unread}
+use Rattle.tokens.specs.declared.Read.TheVariants.{Identifier, String, Unread}
 use Rattle.tokens.specs.declared.Form.{Form}
 use Rattle.tokens.specs.declared.Form.TheVariants as form
 use Rattle.tokens.specs.declared.Refusal.TheVariants.{CutOff}

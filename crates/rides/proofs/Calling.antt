@@ -5,8 +5,6 @@ use mathlib.Core.Path.{◌≡◌, refl, ap, sym, ◌∙◌}
 use mathlib.Core.Bool.{true, false}
 use mathlib.Core.List.{List, [], ◌∷◌}
 use mathlib.Core.Option.{Option, none, some}
-use types.Run.{OneOf}
-use denote.Enum.Declared.{tag_of}
 use Rattle.table.specs.Slots.{slots}
 use Rattle.machine.specs.declared.Value.{Value}
 use Rattle.machine.specs.declared.Value.TheVariants.{Operator}
@@ -25,7 +23,6 @@ use Rattle.machine.specs.Contexts.{above, fault, settle}
 use Rattle.machine.specs.Engine.{call}
 use Rattle.machine.specs.Step.{execute, executed, begun_in, begun}
 use Rattle.operands.proofs.Reading.{NoOperator, no_operator}
-use Rattle.machine.specs.contracts.Value.{the_type}
 use Rattle.state.specs.declared.Registers.{Registers}
 use Rattle.state.specs.declared.Tops.{Tops}
 use Rattle.state.specs.Layout.{value_in, stack_of, abs, Good, Busy, Done, answer, Tried, Begun, Topmost}

@@ -235,9 +235,10 @@ module _ {b w₀ w : List ℕ} {r₀ r : Registers} {at most clear p left : ℕ}
         idle = o.idle;
         here = λ h. o.on code n eb (nc h) ∙ ap (λ (x : Registers). ahead p (n + (most - left)) (abs w x)) o.same;
         falls =
-            λ h.
-            (o.on code n eb (fa h).0 ∙ ap (λ (x : Registers). ahead p (n + (most - left)) (abs w x)) o.same,
-            λ q m. subst (λ (x : Registers). execute code (found_at b p).literal (ahead q m (abs w x)) ≡ none) o.same ((fa h).1 code q m));
+            λ h. (
+              o.on code n eb (fa h).0 ∙ ap (λ (x : Registers). ahead p (n + (most - left)) (abs w x)) o.same,
+              λ q m. subst (λ (x : Registers). execute code (found_at b p).literal (ahead q m (abs w x)) ≡ none) o.same ((fa h).1 code q m),
+            );
         does = λ h. o.off code n eb h ∙ ap (λ (x : Registers). settle (ahead (solid b p) (n + (most - left)) (abs w x))) o.same;
       })
 

@@ -6,16 +6,14 @@ use mathlib.Core.Bool.{Bool, true, false, cond, not, ◌&&◌, ◌||◌}
 use mathlib.Core.Logic.{inl, inr}
 use mathlib.Core.List.{List, [], ◌∷◌}
 use mathlib.Core.Option.{Option, none, some}
-use types.Run.{OneOf, miss}
-use borrow.Author.Tests.{le-leb, eqb-true, ltb-true, ltb-false}
-use lib.Dec.{eqb, ltb}
+use types.Run.{OneOf}
+use borrow.Author.Tests.{le-leb, eqb-true}
+use lib.Dec.{eqb}
 use lib.IntN.{pos, ◌-ℤ◌}
 use lib.ListN.{length, get_or}
 use Rattle.numbers.specs.declared.Number as num
 use Rattle.numbers.specs.declared.Answer.{Answer}
 use Rattle.numbers.specs.declared.Answer.TheVariants.{Is, TooLarge, ByZero}
-use Rattle.numbers.specs.contracts.Answer.{the_type as answer_type}
-use denote.Enum.Declared.{tag_of}
 use Rattle.numbers.specs.Arith.{sum_of, difference_of, product_of, quotient_of}
 use Rattle.table.specs.declared.Slot.{Slot}
 use Rattle.table.specs.Slots.{slots}

@@ -1,6 +1,6 @@
 -- A value as a slot, and back. Assumes nothing.
 use mathlib.Core.Path.{◌≡◌, refl, ap, sym, ◌∙◌}
-use Prim.Native.Nat.{ℕ, ◌-◌, ◌<◌}
+use Prim.Native.Nat.{ℕ, ◌<◌}
 use native.Mathlib.Omega.{arith}
 use borrow.Author.Tests.{ne_eqb}
 use lib.IntN.{ℤ}
@@ -10,7 +10,6 @@ use Rattle.table.specs.declared.Slot.{Slot}
 use Rattle.table.specs.Slots.{mk}
 use Rattle.numbers.specs.declared.Number as num
 use Rattle.machine.specs.declared.Value.TheVariants.{Number, Identifier, Vector, Operator}
-use Rattle.machine.specs.Engine.{fits}
 use Rattle.state.specs.Layout.{value_in}
 use lib.Signed.{mag}
 use native.Mathlib.Nat.{mod-eq_of_lt}

@@ -6,7 +6,7 @@ use lib.Seq.{slice_empty}
 use Rattle.tokens.specs.Text.{lowered}
 use Rattle.filling.specs.Filling.{shown}
 use Rattle.filling.proofs.Copying.{lower_next}
-use Prim.Native.Nat.{suc, ◌+◌, ◌-◌}
+use Prim.Native.Nat.{suc, ◌+◌}
 use mathlib.Core.Path.{◌≡◌, refl, sym, ◌∙◌}
 use native.Mathlib.Omega.{arith}
 use Rattle.filling.proofs.put_part.Goals as goal

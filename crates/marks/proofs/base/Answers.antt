@@ -1,6 +1,5 @@
 -- `base` meets its contract. Assumes nothing.
 use Rattle.marks.proofs.Counting.{count_clear, count_end, count_stop, count_next}
-use Prim.Native.Nat.{◌-◌}
 use native.Mathlib.Omega.{arith}
 use Rattle.marks.proofs.base.Goals as goal
 use Rattle.marks.proofs.base.Goals.{then-clear-height, else-clear-height}
@@ -8,9 +7,9 @@ use Rattle.marks.proofs.base.Goals.{then-clear-height, else-clear-height}
 pub loop-i-init : goal.loop-i-init
 loop-i-init c =
     elim c.if-clear-height.branch [
-      then-clear-height t ↦ (omega arith, rw t.i-is (count_clear _ _ _ c.requires.2 t.if-clear-height.true))
+      | then-clear-height t ↦ (omega arith, rw t.i-is (count_clear _ _ _ c.requires.2 t.if-clear-height.true))
       | else-clear-height t ↦ (omega arith, rw t.i-is (omega arith))
-      ]
+    ]
 
 pub returns-then-v-eq5 : goal.returns-then-v-eq5
 returns-then-v-eq5 c =

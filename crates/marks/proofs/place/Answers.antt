@@ -1,6 +1,5 @@
 -- `place` meets its contract. Assumes nothing.
 use borrow.Author.Rules.{rules}
-use Prim.Native.Nat.{◌-◌}
 use Rattle.marks.proofs.Marking.{place_few, place_full, place_yes}
 use Rattle.state.proofs.Stacking.{few}
 use native.Mathlib.Omega.{arith}

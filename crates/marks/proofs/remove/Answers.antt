@@ -1,7 +1,6 @@
 -- `remove` meets its contract. Assumes nothing.
 use borrow.Author.Rules.{rules}
 use mathlib.Core.Path.{refl}
-use Prim.Native.Nat.{◌-◌}
 use Rattle.marks.proofs.Marking.{remove_bare, remove_few, remove_value, remove_other, remove_yes}
 use Rattle.marks.proofs.remove.Goals as goal
 

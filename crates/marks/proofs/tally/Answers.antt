@@ -1,6 +1,5 @@
 -- `tally` meets its contract. Assumes nothing.
 use Rattle.marks.proofs.Marking.{tally_bare, tally_value, tally_other, tally_push}
-use Prim.Native.Nat.{◌-◌}
 use Rattle.marks.proofs.tally.Goals as goal
 
 pub returns-then-i-eq0 : goal.returns-then-i-eq0

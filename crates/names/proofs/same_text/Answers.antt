@@ -1,6 +1,5 @@
 -- `same_text` meets its contract. Assumes nothing.
 use mathlib.Core.Path.{refl, sym, ◌∙◌}
-use Prim.Native.Nat.{◌-◌}
 use native.Mathlib.Numerals.{add-one}
 use Rattle.names.specs.Names.{both, data_at}
 use Rattle.names.proofs.Letters.{other_size, all_compared, same_byte, other_byte}

@@ -2,7 +2,6 @@
 use borrow.Author.Rules.{rules}
 use Rattle.sprints.proofs.Swiftly.{by_figure, by_name}
 use Rattle.paces.proofs.Pacing.{by_text, by_plain, by_holder, sized_holder}
-use Prim.Native.Nat.{◌-◌}
 use Rattle.paces.proofs.execute.Goals as goal
 
 pub holder-requires : goal.holder-requires

@@ -3,7 +3,6 @@ use borrow.Author.Rules.{rules}
 use mathlib.Core.Path.{refl}
 use Rattle.state.proofs.Stacking.{tops_fit}
 use Rattle.effects.proofs.Executing.{busy_lower, small_value, plain_few, plain_done}
-use Prim.Native.Nat.{◌-◌}
 use Rattle.paces.proofs.plain.Goals as goal
 
 pub returns-then-a-t : goal.returns-then-a-t

@@ -1,7 +1,7 @@
 -- `put_section` meets its contract. Assumes nothing.
 use borrow.Author.Rules.{rules}
 use mathlib.Core.Path.{refl}
-use Prim.Native.Nat.{◌+◌, ◌-◌}
+use Prim.Native.Nat.{◌+◌}
 use Rattle.table.specs.Slots.{slots}
 use Rattle.sections.proofs.Showing.{section_none, section_more, section_whole}
 use native.Mathlib.Omega.{arith}

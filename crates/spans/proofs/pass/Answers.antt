@@ -1,7 +1,6 @@
 use Rattle.spans.proofs.SpanTurns.{where_first, where_reads, where_opens, closes_one, closes_noted, closes_last, closes_on, where_on, over_inside, brace_token, no_brace, note_long, end_fits, note_kept, few_where, operator_over}
 use Rattle.passing.proofs.Knowing.{stands, operator_pair}
 use lib.ListN.{length}
-use Prim.Native.Nat.{◌-◌}
 use mathlib.Core.Path.{refl, sym, ap, ◌∙◌}
 use native.Mathlib.Omega.{arith}
 use Rattle.spans.proofs.pass.Goals as goal

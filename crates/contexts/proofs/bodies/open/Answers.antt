@@ -1,6 +1,5 @@
 -- `bodies::open` meets its contract. Assumes nothing.
 use borrow.Author.Rules.{rules}
-use Prim.Native.Nat.{◌-◌}
 use Rattle.contexts.proofs.Entering.{open_none, open_some}
 use Rattle.contexts.proofs.bodies.open.Goals as goal
 

@@ -1,7 +1,6 @@
 -- `frames::fill` meets its contract. Assumes nothing.
 use borrow.Author.Rules.{rules}
 use mathlib.Core.Path.{◌≡◌}
-use Prim.Native.Nat.{◌-◌}
 use native.Mathlib.Numerals.{add-one}
 use Rattle.state.specs.Operations.{filled}
 use native.Mathlib.Omega.{arith}

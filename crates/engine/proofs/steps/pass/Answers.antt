@@ -2,8 +2,6 @@ use Rattle.engine.proofs.Leading.{here_at, unmark_step, skip_step, still_skips, 
 use Rattle.sprints.proofs.Swiftly.{none_run}
 use Rattle.paces.proofs.Pacing.{stands_now, done_same, stepped_same}
 use Rattle.origins.proofs.ByOrigin.{bytes_short, ahead_fits}
-use Prim.Native.Nat.{◌-◌}
-use mathlib.Core.Bool.{true, false}
 use mathlib.Core.Path.{refl, ◌∙◌}
 use native.Mathlib.Omega.{arith}
 use borrow.Author.Rules.{rules}

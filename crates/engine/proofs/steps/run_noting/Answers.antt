@@ -1,7 +1,6 @@
 -- `steps::run_noting` meets its contract. Assumes nothing.
 use borrow.Author.Rules.{rules}
 use mathlib.Core.Path.{refl, sym, ◌∙◌}
-use Prim.Native.Nat.{◌-◌}
 use native.Mathlib.Omega.{arith}
 use Rattle.engine.proofs.Leading.{legible_then, run_whole, run_onward, run_out, run_ended}
 use Rattle.engine.proofs.steps.run_noting.Goals as goal

@@ -1,5 +1,5 @@
 -- `writing::measure` meets its contract: a turn of the first pass, proofs/Passes.antt. Assumes nothing.
-use Rattle.std.proofs.Common.{◌-◌, arith}
+use Rattle.std.proofs.Common.{arith}
 use Rattle.lists.proofs.Sizes.{small_item}
 use Rattle.lists.proofs.Passes.{measuring_start, measuring_end, measuring_wrong, measuring_on}
 use Rattle.lists.proofs.writing.measure.Goals as goal

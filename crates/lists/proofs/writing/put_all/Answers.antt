@@ -1,5 +1,5 @@
 -- `writing::put_all` meets its contract: a turn of the second pass, proofs/Passes.antt. Assumes nothing.
-use Rattle.std.proofs.Common.{◌-◌, length, arith}
+use Rattle.std.proofs.Common.{length, arith}
 use Rattle.tokens.specs.Format.{header}
 use Rattle.items.specs.Listing.{listed}
 use Rattle.lists.proofs.Passes.{putting_start, putting_end, putting_room, putting_on, fits_start}

@@ -1,30 +1,15 @@
 -- `bodies::body` and `bodies::literals`, which call each other, meet their contracts: the bytes left fall at each call, and in the loop over
 -- a body's literals those from here on end as all of them do. Assumes nothing.
 use mathlib.Core.Path.{refl, ap, ◌∙◌}
-use Prim.Native.Nat.{◌-◌}
 use native.Mathlib.Nat.{le_refl}
 use native.Mathlib.Omega.{arith}
 use lib.ListN.{length}
-use borrow.Fn.PlainCycle.{is}
 use Rattle.tokens.specs.declared.Refusal.TheVariants.{TooDeep}
-use Rattle.tokens.proofs.forms.form_at.Reads as form-at-reads
-use Rattle.passing.proofs.pass_sequence.Reads as pass-sequence-reads
 use Rattle.machine.proofs.Inside.{WentIn, due_inside, solid_past}
 use Rattle.machine.specs.Skeleton.{opening, solid, held}
 use Rattle.machine.specs.declared.Went.TheVariants.{Past, Stop}
 use Rattle.nesting.proofs.BodyTurns.{shorter, onward, ended, refused, operator_ends, number_on, plain_on, closing, barred, holding, passed, passed_by, cut, due_there, stopped, full, entered}
 use Rattle.passing.proofs.Knowing.{sequence_shown}
-use Rattle.nesting.proofs.bodies.body.Reads as body
-use Rattle.nesting.proofs.bodies.body.Kinds as body-kinds
-use Rattle.nesting.proofs.bodies.+body_literals.Lts-body as body-lts
-use Rattle.nesting.proofs.bodies.literals.Reads as literals
-use Rattle.nesting.proofs.bodies.literals.Kinds as literals-kinds
-use Rattle.nesting.proofs.bodies.+body_literals.Lts-literals as literals-lts
-use Rattle.nesting.proofs.bodies.cut_off.Reads as cut-off-reads
-use Rattle.nesting.proofs.bodies.due_here.Reads as due-here-reads
-use Rattle.nesting.proofs.bodies.not_allowed.Reads as not-allowed-reads
-use Rattle.nesting.proofs.bodies.past_comments.Reads as past_comments_reads
-use Rattle.nesting.proofs.roles.role_of.Reads as role-of-reads
 use Rattle.nesting.proofs.bodies.+body_literals.Goals as goal
 
 pub body-returns-then-left-eq0 : goal.body-returns-then-left-eq0

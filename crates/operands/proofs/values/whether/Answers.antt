@@ -1,6 +1,6 @@
 -- `operands::whether` meets its contract. Assumes nothing.
 use borrow.Author.Rules.{rules}
-use Rattle.machine.specs.Operand.{natural, whether}
+use Rattle.machine.specs.Operand.{whether}
 use Rattle.operands.proofs.values.whether.Goals as goal
 
 pub natural-requires : goal.natural-requires

@@ -1,5 +1,5 @@
 -- `call::effect` meets its contract. Assumes nothing.
-use Rattle.machine.specs.Ops.Call.{called, call_effect}
+use Rattle.machine.specs.Ops.Call.{call_effect}
 use Rattle.operators.proofs.call.effect.Goals as goal
 
 pub returns-in-Do : goal.returns-in-Do

@@ -4,7 +4,6 @@ use borrow.Author.Tests.{eq-eqb, ne_eqb}
 use Rattle.machine.specs.Ops.Control.{body_effect}
 use Rattle.machine.specs.declared.Effect.TheVariants.{Gives}
 use Rattle.operands.proofs.Reading.{no_card, is_card, when_so, when_not}
-use Rattle.machine.specs.Operand.{natural}
 use Rattle.operators.proofs.control.if_else.Goals as goal
 
 pub returns-then-i-eq0 : goal.returns-then-i-eq0

@@ -2,7 +2,6 @@
 use mathlib.Core.Path.{◌∙◌}
 use Rattle.machine.specs.Ops.Test.{test_effect}
 use Rattle.operands.proofs.Reading.{no_card, is_card}
-use Rattle.machine.specs.Operand.{whether}
 use Rattle.operators.proofs.test.not.Goals as goal
 
 pub returns-in-No : goal.returns-in-No

@@ -3,7 +3,6 @@ use mathlib.Core.Path.{◌∙◌}
 use Rattle.machine.specs.Ops.Test.{test_effect, joined}
 use Rattle.operators.proofs.Testing.{or_off, or_on}
 use Rattle.operands.proofs.Reading.{no_card, is_card}
-use Rattle.machine.specs.Operand.{whether}
 use Rattle.operators.proofs.test.or.Goals as goal
 
 pub returns-then-a-eq0 : goal.returns-then-a-eq0

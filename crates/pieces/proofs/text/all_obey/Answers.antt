@@ -4,7 +4,7 @@ use Rattle.tokens.specs.Text.{every}
 use Rattle.numbers.proofs.Cond.{no_left, no_right}
 use lib.Seq.{slice_empty}
 use native.Mathlib.Nat.{add-zero}
-use Prim.Native.Nat.{suc, ◌+◌, ◌-◌}
+use Prim.Native.Nat.{suc, ◌+◌}
 use mathlib.Core.Bool.{Bool, false, ◌&&◌, and-true}
 use native.Mathlib.Omega.{arith}
 use mathlib.Core.Path.{◌≡◌, sym, ap, ◌∙◌}
@@ -39,9 +39,9 @@ loop-i-preserved c =
     let e : a.start + (o.i + 1) ≡ suc (a.start + o.i) = omega arith in (
       omega arith,
       rw e (elim c.if-not-obeys_rule.branch [
-          then-not-obeys_rule w ↦ stops _ o.good _ _ _ w.good-is (every_stop a.rule a.s.now (a.start + o.i) (a.start + a.len) (omega arith) (omega arith) (sym c.obeys_rule.ensures ∙ w.if-not-obeys_rule.true)) o.invariant.1
-          | else-not-obeys_rule w ↦ goes _ o.good _ _ _ w.good-is (every_next a.rule a.s.now (a.start + o.i) (a.start + a.len) (omega arith) (omega arith) (sym c.obeys_rule.ensures ∙ w.if-not-obeys_rule.false)) o.invariant.1
-          ]),
+        | then-not-obeys_rule w ↦ stops _ o.good _ _ _ w.good-is (every_stop a.rule a.s.now (a.start + o.i) (a.start + a.len) (omega arith) (omega arith) (sym c.obeys_rule.ensures ∙ w.if-not-obeys_rule.true)) o.invariant.1
+        | else-not-obeys_rule w ↦ goes _ o.good _ _ _ w.good-is (every_next a.rule a.s.now (a.start + o.i) (a.start + a.len) (omega arith) (omega arith) (sym c.obeys_rule.ensures ∙ w.if-not-obeys_rule.false)) o.invariant.1
+      ]),
     )
 
 pub returns : goal.returns

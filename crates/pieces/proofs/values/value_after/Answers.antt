@@ -1,6 +1,6 @@
 -- The loop reads one byte a turn: what is read with the rest is the whole, and the bytes read fit. Assumes nothing.
 use mathlib.Core.Path.{◌≡◌, sym, ◌∙◌}
-use Prim.Native.Nat.{ℕ, suc, ◌<◌, ◌-◌, ◌+◌}
+use Prim.Native.Nat.{ℕ, suc, ◌<◌, ◌+◌}
 use native.Mathlib.Nat.{add-zero}
 use lib.ListN.{get_or}
 use lib.Seq.{slice_empty}

@@ -1,5 +1,4 @@
 -- `walks::every_page` meets its contract. Assumes nothing.
-use Prim.Native.Nat.{◌-◌}
 use native.Mathlib.Omega.{arith}
 use Rattle.prints.proofs.Walking.{walk_starts, row_asks, walk_goes, walk_ends}
 use borrow.Author.Rules.{rules}

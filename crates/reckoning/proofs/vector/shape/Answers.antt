@@ -2,7 +2,7 @@
 use borrow.Author.Rules.{rules}
 use Rattle.machine.specs.Ops.Vector.{vector_effect}
 use Rattle.operands.proofs.Reading.{no_vector, is_vector, small_vector}
-use Rattle.machine.specs.Operand.{natural, only_if}
+use Rattle.machine.specs.Operand.{only_if}
 use Rattle.reckoning.proofs.vector.shape.Goals as goal
 
 pub enum_known-x : goal.enum_known-x

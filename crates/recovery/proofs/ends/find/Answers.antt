@@ -1,6 +1,5 @@
 -- `ends::find` meets its contract. Assumes nothing.
 use borrow.Author.Rules.{rules}
-use Prim.Native.Nat.{◌-◌}
 use Rattle.recovery.proofs.Recovering.{find_none, find_here, find_on}
 use Rattle.recovery.proofs.ends.find.Goals as goal
 

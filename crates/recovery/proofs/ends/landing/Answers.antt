@@ -1,6 +1,5 @@
 -- `ends::landing` meets its contract. Assumes nothing.
 use borrow.Author.Rules.{rules}
-use Prim.Native.Nat.{◌-◌}
 use Rattle.recovery.proofs.Recovering.{land_value, land_dead, land_here, land_left, land_bottom}
 use Rattle.recovery.proofs.ends.landing.Goals as goal
 

@@ -1,5 +1,5 @@
 use mathlib.Core.Path.{◌≡◌}
-use Prim.Native.Nat.{◌-◌, ◌≤◌}
+use Prim.Native.Nat.{◌≤◌}
 use Rattle.table.specs.Slots.{slots}
 use Rattle.machine.specs.Contexts.{recover}
 use Rattle.state.specs.Layout.{contexts_of, stack_of}

@@ -1,6 +1,5 @@
 -- `ends::skipped` meets its contract. Assumes nothing.
 use borrow.Author.Rules.{rules}
-use Prim.Native.Nat.{◌-◌}
 use Rattle.state.proofs.Ending.{skip_stop, skip_left}
 use Rattle.recovery.proofs.ends.skipped.Goals as goal
 

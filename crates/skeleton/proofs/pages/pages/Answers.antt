@@ -1,6 +1,5 @@
 -- `pages::pages` meets its contract: whatever the preamble's span is, the pages from here on are counted, and stand, as all of them do. Assumes nothing.
 use mathlib.Core.Path.{sym, ◌∙◌}
-use Prim.Native.Nat.{◌-◌}
 use native.Mathlib.Omega.{arith}
 use Rattle.skeleton.proofs.PageTurns.{counting_starts, counting_aside, page_room, counting_page, counting_ended, counting_halts}
 use Rattle.skeleton.proofs.pages.pages.Goals as goal

@@ -1,6 +1,5 @@
 -- `stack::has` meets its contract. Assumes nothing.
 use borrow.Author.Rules.{rules}
-use Prim.Native.Nat.{◌-◌}
 use Rattle.state.proofs.Stacking.{has_few, has_all, has_mark, has_more}
 use Rattle.state.proofs.stack.has.Goals as goal
 

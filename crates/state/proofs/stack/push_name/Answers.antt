@@ -1,7 +1,6 @@
 -- `stack::push_name` meets its contract. Assumes nothing.
 use borrow.Author.Rules.{rules}
 use Rattle.state.proofs.Coding.{name_slot}
-use Prim.Native.Nat.{◌-◌}
 use Rattle.state.proofs.Stacking.{name_push}
 use Rattle.state.proofs.stack.push_name.Goals as goal
 

@@ -1,6 +1,5 @@
 -- `stack::push_slot` meets its contract. Assumes nothing.
 use borrow.Author.Rules.{rules}
-use Prim.Native.Nat.{◌-◌}
 use Rattle.state.proofs.Stacking.{push_no, push_yes}
 use Rattle.state.proofs.stack.push_slot.Goals as goal
 

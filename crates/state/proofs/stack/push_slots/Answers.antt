@@ -1,6 +1,5 @@
 -- `stack::push_slots` meets its contract. Assumes nothing.
 use native.Mathlib.Omega.{arith}
-use Prim.Native.Nat.{◌-◌}
 use mathlib.Core.Path.{refl}
 use Rattle.state.proofs.Stacking.{two_no, two_yes}
 use borrow.Author.Rules.{rules}

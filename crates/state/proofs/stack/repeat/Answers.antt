@@ -1,6 +1,5 @@
 -- `stack::repeat` meets its contract. Assumes nothing.
 use borrow.Author.Rules.{rules}
-use Prim.Native.Nat.{◌-◌}
 use Rattle.state.proofs.Stacking.{repeat_few, repeat_full, repeat_yes, few}
 use native.Mathlib.Omega.{arith}
 use Rattle.state.proofs.stack.repeat.Goals as goal

@@ -1,6 +1,5 @@
 -- `stack::tops` meets its contract. Assumes nothing.
 use borrow.Author.Rules.{rules}
-use Prim.Native.Nat.{◌-◌}
 use Rattle.state.proofs.Stacking.{tops_empty, tops_mark, tops_one, tops_over, tops_two}
 use Rattle.state.proofs.stack.tops.Goals as goal
 

@@ -1,6 +1,5 @@
 -- `stack::turn` meets its contract. Assumes nothing.
 use borrow.Author.Rules.{rules}
-use Prim.Native.Nat.{◌-◌}
 use Rattle.state.proofs.Stacking.{few, turn_few, turn_yes}
 use native.Mathlib.Omega.{arith}
 use Rattle.state.proofs.stack.turn.Goals as goal

@@ -1,6 +1,5 @@
 -- `cells::all_cardinals` meets its contract. Assumes nothing.
 use mathlib.Core.Path.{refl, sym, ◌∙◌}
-use Prim.Native.Nat.{◌-◌}
 use native.Mathlib.Numerals.{add-one}
 use Rattle.table.specs.Slots.{slots}
 use Rattle.store.proofs.Cardinals.{cells_over, none_due, cardinal_on, cardinal_not}

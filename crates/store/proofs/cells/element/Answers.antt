@@ -1,7 +1,6 @@
 -- `cells::element` meets its contract. Assumes nothing.
 use borrow.Author.Rules.{rules}
 use Rattle.state.proofs.Coding.{zero_plain}
-use Prim.Native.Nat.{◌-◌}
 use Rattle.state.proofs.Framing.{element_far, element_push}
 use Rattle.store.proofs.cells.element.Goals as goal
 

@@ -1,6 +1,6 @@
 -- `letters::put_letters` meets its contract. Assumes nothing.
 use mathlib.Core.Path.{sym, ◌∙◌, subst}
-use Prim.Native.Nat.{ℕ, ◌+◌, ◌-◌}
+use Prim.Native.Nat.{ℕ, ◌+◌}
 use lib.ListN.{length}
 use lib.Seq.{slice}
 use Rattle.table.specs.Slots.{slots}

@@ -1,7 +1,7 @@
 -- `letters::put_piece` meets its contract. Assumes nothing.
 use borrow.Author.Rules.{rules}
 use mathlib.Core.Path.{◌≡◌, refl, sym, ◌∙◌}
-use Prim.Native.Nat.{suc, ◌+◌, ◌-◌}
+use Prim.Native.Nat.{suc, ◌+◌}
 use native.Mathlib.Nat.{add-zero}
 use lib.Seq.{slice_empty}
 use Rattle.table.specs.Slots.{slots}

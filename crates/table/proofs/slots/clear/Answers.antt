@@ -1,7 +1,6 @@
 -- `slots::clear` meets its contract. Assumes nothing.
 use borrow.Author.Rules.{rules}
 use mathlib.Core.Path.{◌≡◌}
-use Prim.Native.Nat.{◌-◌}
 use Rattle.table.specs.Slots.{zeroed}
 use borrow.Author.Fill.{fill_more}
 use native.Mathlib.Omega.{arith}

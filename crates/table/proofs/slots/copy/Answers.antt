@@ -1,7 +1,6 @@
 -- `slots::copy` meets its contract. Assumes nothing.
 use borrow.Author.Rules.{rules}
 use mathlib.Core.Path.{◌≡◌}
-use Prim.Native.Nat.{◌-◌}
 use Rattle.table.specs.Slots.{copied}
 use native.Mathlib.Numerals.{add-one}
 use native.Mathlib.Omega.{arith}

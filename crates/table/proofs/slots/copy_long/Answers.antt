@@ -1,7 +1,7 @@
 -- `slots::copy_long` meets its contract: it moves the bytes one by one, and those of whole slots are the slots. Assumes nothing.
 use borrow.Author.Rules.{rules}
 use mathlib.Core.Path.{◌≡◌}
-use Prim.Native.Nat.{◌*◌, ◌-◌}
+use Prim.Native.Nat.{◌*◌}
 use native.Mathlib.Numerals.{add-one}
 use native.Mathlib.Omega.{arith}
 use Rattle.table.proofs.Runs.{moved, slots_moved}

@@ -1,7 +1,7 @@
 -- `words::copy` meets its contract: what is left to copy, stored after what is copied, is the whole. Assumes nothing.
 use mathlib.Core.Path.{◌≡◌, refl, sym, ◌∙◌}
 use native.Mathlib.Omega.{arith}
-use Prim.Native.Nat.{suc, ◌+◌, ◌-◌}
+use Prim.Native.Nat.{suc, ◌+◌}
 use native.Mathlib.Nat.{add-zero}
 use lib.ListN.{length-set}
 use lib.Seq.{slice_empty}

@@ -1,7 +1,6 @@
 -- `header::starts_with` meets its contract: the bytes before i agree, so the test of the rest is the test of the whole. Assumes nothing.
 use native.Mathlib.Numerals.{add-one}
 use Rattle.tokens.proofs.HeaderTest.{start_short, start_other, start_next, start_end}
-use Prim.Native.Nat.{◌-◌}
 use mathlib.Core.Path.{refl}
 use native.Mathlib.Omega.{arith}
 use Rattle.tokens.proofs.header.starts_with.Goals as goal
