@@ -1,4 +1,4 @@
--- `is_name_lem` meets its contract. Assumes nothing.
+-- `is_name` meets its contract. Assumes nothing.
 use mathlib.Core.Path.{sym}
 use Rattle.tokens.specs.declared.Rule.TheVariants.{Lowered}
 use Rattle.items.proofs.Judging.{name_none, name_long, name_first, name_rest}

@@ -1,4 +1,4 @@
--- `single::is_name_lem` meets its contract: the tests in the definition's order. Assumes nothing.
+-- `single::is_name` meets its contract: the tests in the definition's order. Assumes nothing.
 use Rattle.tokens.specs.Text.{is_letter, every, is_name}
 use Rattle.tokens.specs.declared.Rule.TheVariants.{Named}
 use Rattle.tokens.proofs.Summaries.{part_length}
