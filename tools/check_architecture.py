@@ -16,7 +16,7 @@ def read(*path):
 
 def crates():
     """The crates, in the order of crates.txt."""
-    return [line.split(':')[0] for line in read('crates.txt').splitlines() if ':' in line and not line.startswith('#')]
+    return [line.split(':')[0].split()[0] for line in read('crates.txt').splitlines() if ':' in line and not line.startswith('#')]
 
 
 def code(names):
@@ -30,7 +30,7 @@ def path_of(crate, module):
 
 def cited_by(crate, module):
     """The modules of definitions that one of them cites."""
-    found = re.findall(r'^use Rattle·([a-z]+)(?:·specs\.specs|\.specs)\.([A-Z][A-Za-z]*(?:\.[A-Z][A-Za-z]*)*)', read(path_of(crate, module)), re.M)
+    found = re.findall(r'^use Rattle\.([a-z]+)\.specs\.([A-Z][A-Za-z]*(?:\.[A-Z][A-Za-z]*)*)', read(path_of(crate, module)), re.M)
     return [(of, name) for of, name in found if os.path.exists(os.path.join(ROOT, path_of(of, name)))]
 
 
@@ -56,10 +56,10 @@ def laws():
     found = set()
     for by in crates():
         for path in glob.glob(os.path.join(ROOT, 'crates', by, '**', '*'), recursive=True):
-            if path.endswith(('.rt', '.antt')):
-                found |= {(by, of, file) for of, file in re.findall(r'Rattle·([a-z]+)\.proofs\.([A-Z][A-Za-z]*)', read(path))}
+            if path.endswith(('.rt', '.antt')) and '/out/' not in path:
+                found |= {(by, of, file) for of, file in re.findall(r'Rattle\.([a-z]+)\.proofs\.([A-Z][A-Za-z]*)', read(path))}
     found = {(by, of, file) for by, of, file in found
-             if file != 'Theorems' and os.path.exists(os.path.join(ROOT, 'crates', of, 'proofs', file + '.antt'))}
+             if of != by and file != 'Theorems' and os.path.exists(os.path.join(ROOT, 'crates', of, 'proofs', file + '.antt'))}
     rows = []
     for crate in crates():
         files = sorted({file for _, of, file in found if of == crate})
