@@ -88,4 +88,4 @@ shape_of-w c = omega (arith, c.w-2-1.given, c.w-1.given)
 
 pub returns : goal.returns
 returns c =
-    (led_alights (rode_beyond (rode _ _ c.args.r _ c.seat_of-s.result c.requires.0 c.requires.1 c.requires.2 c.rowing.ensures c.bytes_of-b.ensures c.seat_of-s.ensures c.row-t.ensures.0 c.row-t.ensures.4) _ (goes_as c.bytes_of-b.ensures c.past_held-u.ensures.0) (λ k. (c.row-t.ensures.2 k).1)) c.alight-z.ensures (omega (arith, c.row-t.ensures.0, (goes_as c.bytes_of-b.ensures c.past_held-u.ensures.0).fewer, c.if-u-most.false)) c.alight-z.result.ok (λ h. (h, omega (arith, c.if-u-eq0.false))) _ refl, c.past_held-u.ensures.1)
+    (led_alights (rode_beyond (rode _ _ c.args.r _ c.seat_of-s.result c.requires.0 c.requires.1 c.requires.2 c.rowing.ensures c.bytes_of-b.ensures c.seat_of-s.ensures c.row-t.ensures.0 c.row-t.ensures.4) _ (goes_as c.bytes_of-b.ensures c.past_held-u.ensures.0) (λ k. (c.row-t.ensures.2 k).1)) c.alight-z.ensures (omega (arith, c.row-t.ensures.0, (goes_as c.bytes_of-b.ensures c.past_held-u.ensures.0).fewer, c.if-u-most.false)) c.alight-z.result.ok (λ h. (h, omega arith)) _ refl, c.past_held-u.ensures.1)
