@@ -17,7 +17,7 @@ use Rattle.machine.specs.Contexts.{at_end, settle}
 use Rattle.machine.specs.Step.{ended, run, begin}
 use Rattle.machine.specs.Page.{preamble_of, page_start}
 use Rattle.machine.specs.Isolation.{code_at, start_at, moment, Bounded}
-use Rattle.machine.specs.Readable.{IsLiteral, Readable, at_end_lem, Whole}
+use Rattle.machine.specs.Readable.{IsLiteral, Readable, at_its_end, Whole}
 use Rattle.machine.proofs.SoundValues.{reading}
 use Rattle.machine.proofs.Recovery.{Due, leave_lands}
 use Rattle.machine.proofs.Steps.{by_contexts}
@@ -67,7 +67,7 @@ legible_page allowance pre body p q =
     each : (i : ℕ) → Whole (get_or (pre ∷ body ∷ []) i [])
     each zero = p
     each (suc zero) = q
-    each (suc (suc i)) = at_end_lem
+    each (suc (suc i)) = at_its_end
 
 -- ---- the literal that is due
 

@@ -16,7 +16,7 @@ use Rattle.machine.specs.Contexts.{at_end, failing, fault, settle, skipped_in, s
 use Rattle.machine.specs.Step.{begun_in, ended, due_in, step, begin}
 use Rattle.machine.specs.Page.{bodies_of, preamble_of}
 use Rattle.machine.specs.Isolation.{code_at, moment}
-use Rattle.machine.specs.Readable.{IsLiteral, Readable, at_end_lem, literal, Whole}
+use Rattle.machine.specs.Readable.{IsLiteral, Readable, at_its_end, literal, Whole}
 use Rattle.machine.proofs.Readable.{AllWhole, bodies_readable}
 use Rattle.machine.proofs.SoundValues.{Rest, reading, stays}
 use Rattle.machine.proofs.Recovery.{Lower, Due, anywhere, recover_lands, leave_lands, skip_lands}
@@ -44,7 +44,7 @@ pub record First (b : List ℕ) (at end : ℕ) : Type 0 where
   pub rest : Readable b (found_at b at).next end
 
 pub first : (b : List ℕ) (at end : ℕ) → at < end → Readable b at end → First b at end
-first b at end l at_end_lem = absurd (omega arith)
+first b at end l at_its_end = absurd (omega arith)
 first b at end l (literal i p q r) = record { is_literal = p; inside = q; rest = r }
 
 -- any stack and any contexts
@@ -96,7 +96,7 @@ moment_ready bodies whole allowance = moment_held reading (λ s. Due s.contexts)
 -- the bodies of a master; where there is none, no bytes
 pub all_whole : (s : List ℕ) (spans : List Span) → AllWhole s spans → (i : ℕ) → Whole (get_or (bodies_of s spans) i [])
 unfolding bodies_of solid solid_from
-all_whole s [] h i = at_end_lem
+all_whole s [] h i = at_its_end
 all_whole s (p ∷ ps) h zero = h.0
 all_whole s (p ∷ ps) h (suc i) = all_whole s ps h.1 i
 

@@ -21,7 +21,7 @@ use Rattle.machine.specs.Literal.{found, holding_by, holding_at, operator_by, fo
 use Rattle.machine.proofs.Throughout.{All, all_append}
 use Rattle.machine.proofs.JoinedLocal.{View, view}
 use Rattle.tokens.proofs.Theorems.{token_end}
-use Rattle.machine.specs.Readable.{NoComment, IsLiteral, a_number, an_identifier, a_string, an_operator, a_holder, Readable, at_end_lem, literal, Whole}
+use Rattle.machine.specs.Readable.{NoComment, IsLiteral, a_number, an_identifier, a_string, an_operator, a_holder, Readable, at_its_end, literal, Whole}
 use Rattle.machine.proofs.Comments.{never, operator_beyond, two_bytes, none_at, one_at, solid_is, comments_are}
 use Rattle.machine.proofs.Bodies.{Passing, figure, name, text, comment, plain, holding, Passes, stop, more, passing_later, passes_later, parts_of, no_body, body_long}
 use Rattle.machine.proofs.BodyLocal.{body_more, literals_in}
@@ -41,7 +41,7 @@ module _ (b : List ℕ) where
   module _ (k : ℕ) (few : k ≤ most_open) (inner : (at next : ℕ) → body_at k b at ≡ Past next → Readable b (solid b (solid b at + 2)) (solid b at + 2 + (next - 2 - (solid b at + 2)))) where
     readable_from : (at end : ℕ) → NoComment (token_at b end) → Passes b k at end → Readable b (solid b at) end
     unfolding found_at found_by operator_by holding_at holding_by
-    readable_from at end c stop = rw (solid_is b at at (none_at c)) at_end_lem
+    readable_from at end c stop = rw (solid_is b at at (none_at c)) at_its_end
     readable_from at end c (more {next = next} p q) = by_literal p (readable_from next end c q)
       where
         l : at < end

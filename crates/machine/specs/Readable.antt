@@ -33,7 +33,7 @@ pub data IsLiteral (b : List ℕ) (at : ℕ) : Found → Type 0 where
 
 -- from the place on, literals up to the end, past comments
 pub data Readable (b : List ℕ) : ℕ → ℕ → Type 0 where
-  at_end_lem : {end : ℕ} → Readable b end end
+  at_its_end : {end : ℕ} → Readable b end end
   literal : {at end : ℕ} → at < end → IsLiteral b at (found_at b at) → ((n start len : ℕ) → (found_at b at).literal ≡ WithBody n start len → Readable b (solid b start) (start + len))
       → Readable b (found_at b at).next end → Readable b at end
 

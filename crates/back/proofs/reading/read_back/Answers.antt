@@ -11,19 +11,19 @@ headed : (c : Else-not-begins) → starts header c.args.s.now ≡ true
 headed c = sym c.begins.ensures ∙ c.if-not-begins.false
 
 sounds : (c : In-Sound) → Sounds c.args.s.now c.in-Sound.count c.in-Sound.texts
-sounds c = record { small = omega (arith, c.if-s-gt-LONGEST.false); headed = sym c.begins.ensures ∙ c.if-not-begins.false; surveyed = sym c.in-Sound.is ∙ c.survey_of.ensures }
+sounds c = record { small = omega arith; headed = sym c.begins.ensures ∙ c.if-not-begins.false; surveyed = sym c.in-Sound.is ∙ c.survey_of.ensures }
 
 pub returns-then-s-gt-LONGEST : goal.returns-then-s-gt-LONGEST
 returns-then-s-gt-LONGEST c =
-    let a = c.args in rw c.refused.ensures (end_long a.s.now a.list.now a.text.now (omega (arith, c.if-s-gt-LONGEST.true)))
+    let a = c.args in rw c.refused.ensures (end_long a.s.now a.list.now a.text.now (omega arith))
 
 pub returns-then-not-begins : goal.returns-then-not-begins
 returns-then-not-begins c =
-    let a = c.args in rw c.refused-then-not-begins.ensures (end_header a.s.now a.list.now a.text.now (omega (arith, c.if-s-gt-LONGEST.false)) (sym c.begins.ensures ∙ c.if-not-begins.true))
+    let a = c.args in rw c.refused-then-not-begins.ensures (end_header a.s.now a.list.now a.text.now (omega arith) (sym c.begins.ensures ∙ c.if-not-begins.true))
 
 pub returns-in-Broken : goal.returns-in-Broken
 returns-in-Broken c =
-    let a = c.args in rw c.refused-in-Broken.ensures (end_broken a.s.now a.list.now a.text.now (omega (arith, c.if-s-gt-LONGEST.false)) (headed (goal.at.returns-in-Broken c).Else-not-begins) (sym c.in-Broken.is ∙ c.survey_of.ensures))
+    let a = c.args in rw c.refused-in-Broken.ensures (end_broken a.s.now a.list.now a.text.now (omega arith) (headed (goal.at.returns-in-Broken c).Else-not-begins) (sym c.in-Broken.is ∙ c.survey_of.ensures))
 
 pub returns-then-list-count : goal.returns-then-list-count
 returns-then-list-count c =
@@ -35,7 +35,7 @@ returns-then-text-texts c =
 
 pub fill_tables-requires : goal.fill_tables-requires
 fill_tables-requires c =
-    let a = c.args in (omega (arith, c.if-s-gt-LONGEST.false), end_holds a.s.now a.list.now a.text.now (sounds (goal.at.fill_tables-requires c).In-Sound) (omega (arith, c.if-list-count.false)) c.if-text-texts.false)
+    let a = c.args in (omega arith, end_holds a.s.now a.list.now a.text.now (sounds (goal.at.fill_tables-requires c).In-Sound) (omega (arith, c.if-list-count.false)) c.if-text-texts.false)
 
 pub returns-in-Sound : goal.returns-in-Sound
 returns-in-Sound c =
