@@ -1,5 +1,5 @@
 // The calls for a C host: the library's own, each answer as two numbers (document 01, What the controller takes). Nothing else is
-// decided here. include/porthezvan.h is the other side, docs/HOST.md says the rest.
+// decided here. `host_c` exports them, include/porthezvan.h is the other side, docs/HOST.md says the rest.
 #![tactic(auto)]
 
 ghost use Rattle.std.specs.Prelude.{◌≡◌};
@@ -28,29 +28,21 @@ fn told(outcome: Outcome) -> Answer
 }
 
 // Checks a master and answers its page count.
-#[unsafe(no_mangle)]
-pub extern "C" fn pz_load(master: &[u8]) -> Answer
+pub fn pz_load(master: &[u8]) -> Answer
     ensures { Told (Loads master.now) result }
 {
     told(skeleton::pages::load(master))
 }
 
 // Runs every body of a master and answers the page count.
-#[unsafe(no_mangle)]
-pub extern "C" fn pz_run(
-    master: &[u8],
-    allowance: i64,
-    scratch: &mut [u8],
-    rows: &mut [u8],
-) -> Answer
+pub fn pz_run(master: &[u8], allowance: i64, scratch: &mut [u8], rows: &mut [u8]) -> Answer
     ensures { Told (Runs master.now allowance scratch.old scratch.new rows.old rows.new) result }
 {
     told(book::calls::run(master, allowance, scratch, rows))
 }
 
 // Runs one page of a master, or the preamble alone where `page` is 0, and answers `page`.
-#[unsafe(no_mangle)]
-pub extern "C" fn pz_reprint(
+pub fn pz_reprint(
     master: &[u8],
     allowance: i64,
     page: i64,
@@ -64,16 +56,14 @@ pub extern "C" fn pz_reprint(
 }
 
 // Writes a token list and answers the written length.
-#[unsafe(no_mangle)]
-pub extern "C" fn pz_write(list: &[u8], text: &[u8], out: &mut [u8]) -> Answer
+pub fn pz_write(list: &[u8], text: &[u8], out: &mut [u8]) -> Answer
     ensures { Told (Writes list.now text.now out.old out.new) result }
 {
     told(lists::writing::write(list, text, out))
 }
 
 // Reads a token list back and answers the token count.
-#[unsafe(no_mangle)]
-pub extern "C" fn pz_read_back(bytes: &[u8], list: &mut [u8], text: &mut [u8]) -> Answer
+pub fn pz_read_back(bytes: &[u8], list: &mut [u8], text: &mut [u8]) -> Answer
     ensures { Told (ReadsBack bytes.now list.old list.new text.old text.new) result }
 {
     told(back::reading::read_back(bytes, list, text))
