@@ -1,9 +1,11 @@
 -- The literal at a place, arm by arm of the reader, and the numbers that must fit a word. Assumes nothing.
 use Prim.Native.Nat.{ℕ, ◌+◌, ◌-◌, ◌<◌, ◌≤◌}
 use native.Mathlib.Omega.{arith}
-use mathlib.Core.Path.{◌≡◌, refl, sym, ◌∙◌}
-use mathlib.Core.List.{List}
+use mathlib.Core.Path.{◌≡◌, refl, sym, subst, ◌∙◌}
+use mathlib.Core.List.{List, [], ◌∷◌}
 use lib.ListN.{length, get_or}
+use types.Run.{OneOf, miss}
+use denote.Enum.Declared.{tag_of}
 use Rattle.numbers.specs.declared.Number as num
 use Rattle.tokens.specs.declared.Refusal.{Refusal}
 use Rattle.tokens.specs.declared.Read.{Read}
@@ -12,6 +14,7 @@ use Rattle.tokens.specs.declared.Form.TheVariants as form
 use Rattle.tokens.specs.Token.{token_at}
 use Rattle.tokens.proofs.Told.{Tells}
 use Rattle.tokens.proofs.Theorems.{token_tells_all}
+use Rattle.machine.specs.contracts.Role.{the_type}
 use Rattle.machine.specs.declared.Role.{Role}
 use Rattle.machine.specs.declared.Role.TheVariants as role
 use Rattle.machine.specs.declared.Went.{Went}
@@ -42,6 +45,10 @@ module _ (b : List ℕ) (n next : ℕ) (w : Went) (d : Due) (e : w ≡ body_at m
   holding_found end s start len f g h i k = rw (← e, f, ← g, ← i, ← h) k
 
 -- ---- an operator, by its role
+
+-- a role that is not the second holds no body
+pub no_holder : (r : Role) → OneOf (0 ∷ 2 ∷ 3 ∷ []) (tag_of the_type r) → r ≡ role.Holds → ⊥
+no_holder r h e = miss (0 ∷ 2 ∷ 3 ∷ []) 1 tt (subst (λ (x : Role). OneOf (0 ∷ 2 ∷ 3 ∷ []) (tag_of the_type x)) e h)
 
 none_found : (b : List ℕ) (n next : ℕ) (r : Role) → (r ≡ role.Plain → ⊥) → (r ≡ role.Holds → ⊥) → operator_by r b n next ≡ nothing_at b
 unfolding operator_by
