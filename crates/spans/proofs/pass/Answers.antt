@@ -75,7 +75,7 @@ shape_of-memo-then-count-eq0 c = ap length c.note.ensures ∙ note_long _ _ _ �
 
 pub returns-then-count-eq0 : goal.returns-then-count-eq0
 returns-then-count-eq0 c =
-    ((closes_last c.requires.2 _ c.loop-p.invariant.0 (brace_token _ c.loop-p.p 107 _ (operator_pair _ c.loop-p.p (where_reads c.requires.2 _ c.loop-p.invariant.0) (omega (arith, c.if-s-p.false)) (omega (arith, c.if-s-p.false))) c.if-s-p.false (sym c.if-n-eq-CLOSE.true) refl)) c.if-count-eq0.true, rw c.note.ensures (note_kept _ _ c.loop-p.invariant.1 (closes_noted c.requires.2 _ c.loop-p.invariant.0 (brace_token _ c.loop-p.p 107 _ (operator_pair _ c.loop-p.p (where_reads c.requires.2 _ c.loop-p.invariant.0) (omega (arith, c.if-s-p.false)) (omega (arith, c.if-s-p.false))) c.if-s-p.false (sym c.if-n-eq-CLOSE.true) refl))))
+    ((closes_last c.requires.2 _ c.loop-p.invariant.0 (brace_token _ c.loop-p.p 107 _ (operator_pair _ c.loop-p.p (where_reads c.requires.2 _ c.loop-p.invariant.0) (omega (arith, c.if-s-p.false)) (omega (arith, c.if-s-p.false))) c.if-s-p.false (sym c.if-n-eq-CLOSE.true) refl)) (omega (arith, c.if-count-eq0.true)), rw c.note.ensures (note_kept _ _ c.loop-p.invariant.1 (closes_noted c.requires.2 _ c.loop-p.invariant.0 (brace_token _ c.loop-p.p 107 _ (operator_pair _ c.loop-p.p (where_reads c.requires.2 _ c.loop-p.invariant.0) (omega (arith, c.if-s-p.false)) (omega (arith, c.if-s-p.false))) c.if-s-p.false (sym c.if-n-eq-CLOSE.true) refl))))
 
 pub loop-p-smaller-else-count-eq0 : goal.loop-p-smaller-else-count-eq0
 loop-p-smaller-else-count-eq0 c =
@@ -83,7 +83,7 @@ loop-p-smaller-else-count-eq0 c =
 
 pub loop-p-preserved-else-count-eq0 : goal.loop-p-preserved-else-count-eq0
 loop-p-preserved-else-count-eq0 c =
-    ((closes_on c.requires.2 _ c.loop-p.invariant.0 (brace_token _ c.loop-p.p 107 _ (operator_pair _ c.loop-p.p (where_reads c.requires.2 _ c.loop-p.invariant.0) (omega (arith, c.if-s-p.false)) (omega (arith, c.if-s-p.false))) c.if-s-p.false (sym c.if-n-eq-CLOSE.true) refl)) c.if-count-eq0.false, rw c.note.ensures (note_kept _ _ c.loop-p.invariant.1 (closes_noted c.requires.2 _ c.loop-p.invariant.0 (brace_token _ c.loop-p.p 107 _ (operator_pair _ c.loop-p.p (where_reads c.requires.2 _ c.loop-p.invariant.0) (omega (arith, c.if-s-p.false)) (omega (arith, c.if-s-p.false))) c.if-s-p.false (sym c.if-n-eq-CLOSE.true) refl))), ap length c.note.ensures ∙ note_long _ _ _ ∙ c.loop-p.invariant.2)
+    ((closes_on c.requires.2 _ c.loop-p.invariant.0 (brace_token _ c.loop-p.p 107 _ (operator_pair _ c.loop-p.p (where_reads c.requires.2 _ c.loop-p.invariant.0) (omega (arith, c.if-s-p.false)) (omega (arith, c.if-s-p.false))) c.if-s-p.false (sym c.if-n-eq-CLOSE.true) refl)) (λ z. omega (arith, c.if-count-eq0.false, z)), rw c.note.ensures (note_kept _ _ c.loop-p.invariant.1 (closes_noted c.requires.2 _ c.loop-p.invariant.0 (brace_token _ c.loop-p.p 107 _ (operator_pair _ c.loop-p.p (where_reads c.requires.2 _ c.loop-p.invariant.0) (omega (arith, c.if-s-p.false)) (omega (arith, c.if-s-p.false))) c.if-s-p.false (sym c.if-n-eq-CLOSE.true) refl))), ap length c.note.ensures ∙ note_long _ _ _ ∙ c.loop-p.invariant.2)
 
 pub loop-p-smaller : goal.loop-p-smaller
 loop-p-smaller c =

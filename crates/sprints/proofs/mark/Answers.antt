@@ -27,4 +27,4 @@ returns-in-No c = λ code. flat_undone _ (omega arith)
 
 pub returns-else-n-ne0 : goal.returns-else-n-ne0
 returns-else-n-ne0 c =
-    λ code. mark_flat code _ _ _ c.requires c.tops-t.ensures c.if-t-lt1.false _ c.value_of.ensures _ c.cardinal.ensures.0 c.in-Is.is c.if-n-ne0.false c.if-r-clear.false refl c.place_bare.ensures c.height_of.ensures
+    λ code. mark_flat code _ _ _ c.requires c.tops-t.ensures c.if-t-lt1.false _ c.value_of.ensures _ c.cardinal.ensures.0 c.in-Is.is (omega (arith, c.if-n-ne0.false)) c.if-r-clear.false refl c.place_bare.ensures c.height_of.ensures

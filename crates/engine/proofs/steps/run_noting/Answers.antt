@@ -22,7 +22,7 @@ shape_of-notes-then-r-eq0 c = c.loop-r.invariant.7
 
 pub returns-then-r-eq0 : goal.returns-then-r-eq0
 returns-then-r-eq0 c =
-    record { good = c.loop-r.invariant.0; does = run_ended _ _ _ _ c.loop-r.r c.loop-r.invariant.4 (omega (arith, c.loop-r-test.true)) c.if-r-eq0.true; keeps = c.loop-r.invariant.3; counted = c.loop-r.invariant.2 }
+    record { good = c.loop-r.invariant.0; does = run_ended _ _ _ _ c.loop-r.r c.loop-r.invariant.4 (omega (arith, c.loop-r-test.true)) (omega (arith, c.if-r-eq0.true)); keeps = c.loop-r.invariant.3; counted = c.loop-r.invariant.2 }
 
 pub overflow_sub-last : goal.overflow_sub-last
 overflow_sub-last c = c.loop-r.invariant.2

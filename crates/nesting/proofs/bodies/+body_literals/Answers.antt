@@ -14,7 +14,7 @@ use Rattle.nesting.proofs.bodies.+body_literals.Goals as goal
 
 pub body-returns-then-left-eq0 : goal.body-returns-then-left-eq0
 body-returns-then-left-eq0 t c =
-    ap (Stop TooDeep) c.past_comments-q.ensures ∙ full _ _ _ _ (due_there _ _ _ _ _ c.past_comments-q.ensures c.due_here.ensures ∙ c.in-Past.is) c.if-left-eq0.true
+    ap (Stop TooDeep) c.past_comments-q.ensures ∙ full _ _ _ _ (due_there _ _ _ _ _ c.past_comments-q.ensures c.due_here.ensures ∙ c.in-Past.is) (omega (arith, c.if-left-eq0.true))
 
 pub body-literals-requires : goal.body-literals-requires
 body-literals-requires t c =

@@ -33,19 +33,19 @@ returns-then-b-lt160 c =
 
 pub overflow_add-at-then-b-lt192 : goal.overflow_add-at-then-b-lt192
 overflow_add-at-then-b-lt192 c =
-    omega (arith, operator_pair c.args.s.now c.args.at c.requires c.if-b-lt160.false c.if-b-lt192.true, c.well_formed)
+    omega (arith, operator_pair c.args.s.now c.args.at c.requires c.if-b-lt160.false (omega (arith, c.if-b-lt192.true)), c.well_formed)
 
 pub bounds-s-at-then-b-lt192 : goal.bounds-s-at-then-b-lt192
-bounds-s-at-then-b-lt192 c = operator_pair c.args.s.now c.args.at c.requires c.if-b-lt160.false c.if-b-lt192.true
+bounds-s-at-then-b-lt192 c = operator_pair c.args.s.now c.args.at c.requires c.if-b-lt160.false (omega (arith, c.if-b-lt192.true))
 
 pub overflow_add-result-then-b-lt192 : goal.overflow_add-result-then-b-lt192
 overflow_add-result-then-b-lt192 c =
-    omega (arith, operator_pair c.args.s.now c.args.at c.requires c.if-b-lt160.false c.if-b-lt192.true, c.well_formed)
+    omega (arith, operator_pair c.args.s.now c.args.at c.requires c.if-b-lt160.false (omega (arith, c.if-b-lt192.true)), c.well_formed)
 
 pub returns-then-b-lt192 : goal.returns-then-b-lt192
 unfolding token_at token_of
 returns-then-b-lt192 c =
-    simp (lt-ltb c.args.at (length c.args.s.now) (stands c.args.s.now c.args.at c.requires), le-ltb (get_or c.args.s.now c.args.at 0) 128 c.if-b-lt128.false, le-ltb (get_or c.args.s.now c.args.at 0) 160 c.if-b-lt160.false, lt-ltb (get_or c.args.s.now c.args.at 0) 192 c.if-b-lt192.true, lt-ltb (c.args.at + 1) (length c.args.s.now) (operator_pair c.args.s.now c.args.at c.requires c.if-b-lt160.false c.if-b-lt192.true), c.op_number.ensures)
+    simp (lt-ltb c.args.at (length c.args.s.now) (stands c.args.s.now c.args.at c.requires), le-ltb (get_or c.args.s.now c.args.at 0) 128 c.if-b-lt128.false, le-ltb (get_or c.args.s.now c.args.at 0) 160 c.if-b-lt160.false, lt-ltb (get_or c.args.s.now c.args.at 0) 192 (omega (arith, c.if-b-lt192.true)), lt-ltb (c.args.at + 1) (length c.args.s.now) (operator_pair c.args.s.now c.args.at c.requires c.if-b-lt160.false (omega (arith, c.if-b-lt192.true))), c.op_number.ensures)
 
 pub returns : goal.returns
-returns c = (stands c.args.s.now c.args.at c.requires, c.if-b-lt192.false)
+returns c = (stands c.args.s.now c.args.at c.requires, omega (arith, c.if-b-lt192.false))
