@@ -2,10 +2,9 @@
 // the file and says what a record is.
 #![tactic(auto)]
 
-ghost use Rattle.std.specs.Prelude.{◌<◌, ◌≤◌, length, take, IfOk};
-ghost use Rattle.std.specs.Io.KnownBytes.{Consumes, IsAtEnd};
+ghost use Rattle.std.specs.Prelude.{◌<◌, ◌≤◌, length};
 
-use std::io::Read;
+use input::read_full;
 use std::{fs, io};
 use tokens::Outcome;
 
@@ -289,23 +288,6 @@ fn run_all(
 
 fn say(rt: &impl Print, counts: Counts) -> io::Result<()> {
     println!(rt; "{} right, {} wrong", counts.right, counts.wrong)
-}
-
-// Reads until the bytes are full or the input ends, and answers how many it put in front.
-fn read_full<R: Read>(reader: &mut R, bytes: &mut [u8]) -> io::Result<usize>
-    ensures in_bounds { IfOk result (λ n. n ≤ length bytes.new) }
-    ensures front { IfOk result (λ n. Consumes (R.remaining reader.old) (R.remaining reader.new) (take n bytes.new)) }
-    ensures end { IfOk result (λ n. n < length bytes.new → IsAtEnd (R.remaining reader.new)) }
-{
-    let mut done: usize = 0;
-    while done < bytes.len() {
-        let n = reader.read(&mut bytes[done..])?;
-        if n == 0 {
-            return Ok(done);
-        }
-        done += n;
-    }
-    Ok(done)
 }
 
 fn main(rt: HostRuntime) -> io::Result<()> {

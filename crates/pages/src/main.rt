@@ -1,17 +1,14 @@
 // Lists the master on standard input: the preamble as page 0, then every page. In order: a section; a page; all of them.
 #![tactic(auto)]
 
-ghost use Rattle.std.specs.Prelude.{◌<◌, ◌≤◌, length, take, IfOk};
-ghost use Rattle.std.specs.Io.KnownBytes.{Consumes, IsAtEnd};
-
 mod texts; // text put into a buffer
 mod values; // a value as text
 
 use crate::texts::{BUFFER, put_byte, put_named, put_text};
 use crate::values::{part, put_value, rest, word_at};
+use input::read_full;
 use skeleton::pages::PLACES;
 use std::io;
-use std::io::Read;
 use tokens::Outcome;
 use tokens::refusals::{answer_number, answer_value, refused};
 
@@ -252,23 +249,6 @@ fn put_listing(rt: &impl Print, out: &mut [u8; BUFFER], s: &[u8]) -> io::Result<
         &mut rows,
         &mut sections,
     )
-}
-
-// Reads until the bytes are full or the input ends, and answers how many it put in front.
-fn read_full<R: Read>(reader: &mut R, bytes: &mut [u8]) -> io::Result<usize>
-    ensures in_bounds { IfOk result (λ n. n ≤ length bytes.new) }
-    ensures front { IfOk result (λ n. Consumes (R.remaining reader.old) (R.remaining reader.new) (take n bytes.new)) }
-    ensures end { IfOk result (λ n. n < length bytes.new → IsAtEnd (R.remaining reader.new)) }
-{
-    let mut done: usize = 0;
-    while done < bytes.len() {
-        let n = reader.read(&mut bytes[done..])?;
-        if n == 0 {
-            return Ok(done);
-        }
-        done += n;
-    }
-    Ok(done)
 }
 
 fn main(rt: HostRuntime) -> io::Result<()> {
