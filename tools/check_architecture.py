@@ -30,7 +30,7 @@ def path_of(crate, module):
 
 def cited_by(crate, module):
     """The modules of definitions that one of them cites."""
-    found = re.findall(r'^use Rattle\.([a-z]+)\.specs\.([A-Z][A-Za-z]*(?:\.[A-Z][A-Za-z]*)*)', read(path_of(crate, module)), re.M)
+    found = re.findall(r'^use Rattle\.([a-z_]+)\.specs\.([A-Z][A-Za-z]*(?:\.[A-Z][A-Za-z]*)*)', read(path_of(crate, module)), re.M)
     return [(of, name) for of, name in found if os.path.exists(os.path.join(ROOT, path_of(of, name)))]
 
 
@@ -57,7 +57,7 @@ def laws():
     for by in crates():
         for path in glob.glob(os.path.join(ROOT, 'crates', by, '**', '*'), recursive=True):
             if path.endswith(('.rt', '.antt')) and '/out/' not in path:
-                found |= {(by, of, file) for of, file in re.findall(r'Rattle\.([a-z]+)\.proofs\.([A-Z][A-Za-z]*)', read(path))}
+                found |= {(by, of, file) for of, file in re.findall(r'Rattle\.([a-z_]+)\.proofs\.([A-Z][A-Za-z]*)', read(path))}
     found = {(by, of, file) for by, of, file in found
              if of != by and file != 'Theorems' and os.path.exists(os.path.join(ROOT, 'crates', of, 'proofs', file + '.antt'))}
     rows = []

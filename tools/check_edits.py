@@ -25,7 +25,7 @@ def wrong_with(edit):
 
 def missing():
     """The edits that docs/ANSWERS.md names and that are not there."""
-    named = sorted(set(re.findall(r'`([a-z]+)/([a-z0-9_]+)`', ANSWERS)))
+    named = sorted(set(re.findall(r'`([a-z_]+)/([a-z0-9_]+)`', ANSWERS)))
     there = [os.path.exists(os.path.join(ROOT, 'crates', crate, 'must-fail', edit + '.edit')) for crate, edit in named]
     return [f'docs/ANSWERS.md names {crate}/{edit}, which is not there' for (crate, edit), is_there in zip(named, there) if not is_there]
 
