@@ -1,4 +1,6 @@
 -- What is judged before anything runs. In order: numbers from outside; refusals; a master that may run. Assumes nothing.
+use Rattle.std.specs.Prelude.{Ok, Err}
+use Rattle.tokens.specs.Refusal.{refusal_at}
 use Prim.Native.Nat.{ℕ, ◌-◌, ◌<◌, ◌≤◌}
 use native.Mathlib.Omega.{arith}
 use mathlib.Core.Path.{◌≡◌, refl, sym, ap, ◌∙◌}
@@ -13,8 +15,7 @@ use Rattle.numbers.proofs.Cond.{both}
 use Rattle.tokens.specs.Format.{longest}
 use Rattle.tokens.specs.declared.Refusal.{Refusal}
 use Rattle.tokens.specs.declared.Refusal.TheVariants.{TooLong, TableTooShort, BadAllowance}
-use Rattle.tokens.specs.declared.Outcome.{Outcome}
-use Rattle.tokens.specs.declared.Outcome.TheVariants.{Done, Refused}
+use Rattle.tokens.specs.Refusal.{Outcome}
 use Rattle.machine.specs.Limits.{most_steps}
 use Rattle.machine.specs.Skeleton.{Skeleton, sound, refused, skeleton_of}
 use Rattle.machine.specs.Page.{bodies_of}
@@ -47,34 +48,34 @@ asked low e f g i = rw (← e, ← f) (sym g ∙ i)
 
 -- ---- refusals
 
-refused_one : {w v : Refusal} {p q : ℕ} → Refused w p ≡ Refused v q → (w ≡ v) × (p ≡ q)
+refused_one : {w v : Refusal} {p q : ℕ} → Err (refusal_at w p) ≡ Err (refusal_at v q) → (w ≡ v) × (p ≡ q)
 refused_one e = (cc, cc)
 
-refused_done : {X : Type 0} {w : Refusal} {p n : ℕ} → Refused w p ≡ Done n → X
+refused_done : {X : Type 0} {w : Refusal} {p n : ℕ} → Err (refusal_at w p) ≡ Ok n → X
 refused_done e = never (cc)
 
-done_one : {m n : ℕ} → Done m ≡ Done n → m ≡ n
+done_one : {m n : ℕ} → Ok m ≡ Ok n → m ≡ n
 done_one e = cc
 
-done_refused : {X : Type 0} {w : Refusal} {p n : ℕ} → Done n ≡ Refused w p → X
+done_refused : {X : Type 0} {w : Refusal} {p n : ℕ} → Ok n ≡ Err (refusal_at w p) → X
 done_refused e = never (cc)
 
 module _ (s : List ℕ) (allowance : ℤ) (enough : Bool) (t : List ℕ) where
-  refuses : (w : Refusal) (p : ℕ) (r : Outcome) → r ≡ Refused w p → ((rest : List (List ℕ) → Verdict) → admitted s allowance enough rest ≡ halted w p) → Admitted s allowance enough t r
+  refuses : (w : Refusal) (p : ℕ) (r : Outcome) → r ≡ Err (refusal_at w p) → ((rest : List (List ℕ) → Verdict) → admitted s allowance enough rest ≡ halted w p) → Admitted s allowance enough t r
   refuses w p r e f = record {
     halts = λ v q g rest. let z = refused_one (sym e ∙ g) in rw (← z.0, ← z.1) (f rest);
     goes = λ n g. refused_done (sym e ∙ g);
   }
 
-  pub too_long : (r : Outcome) → r ≡ Refused TooLong 0 → longest < length s → Admitted s allowance enough t r
+  pub too_long : (r : Outcome) → r ≡ Err (refusal_at TooLong 0) → longest < length s → Admitted s allowance enough t r
   unfolding admitted
   too_long r e h = refuses TooLong 0 r e (λ rest. rw (lt-leb (length s) longest h))
 
-  pub too_short : (r : Outcome) → r ≡ Refused TableTooShort 0 → length s ≤ longest → enough ≡ false → Admitted s allowance enough t r
+  pub too_short : (r : Outcome) → r ≡ Err (refusal_at TableTooShort 0) → length s ≤ longest → enough ≡ false → Admitted s allowance enough t r
   unfolding admitted
   too_short r e h k = refuses TableTooShort 0 r e (λ rest. rw (le-leb (length s) longest h, k))
 
-  pub not_allowed : (r : Outcome) → r ≡ Refused BadAllowance 0 → length s ≤ longest → enough ≡ true → allowed allowance ≡ false → Admitted s allowance enough t r
+  pub not_allowed : (r : Outcome) → r ≡ Err (refusal_at BadAllowance 0) → length s ≤ longest → enough ≡ true → allowed allowance ≡ false → Admitted s allowance enough t r
   unfolding admitted
   not_allowed r e h k a = refuses BadAllowance 0 r e (λ rest. rw (le-leb (length s) longest h, k, a))
 

@@ -1,9 +1,10 @@
 -- A master that may run, and what is judged before anything runs: for contracts of inner functions alone. Assumes nothing.
+use Rattle.std.specs.Prelude.{Ok, Err}
+use Rattle.tokens.specs.Refusal.{refusal_at}
 use Rattle.std.specs.Prelude.{ℕ, ◌+◌, ◌≤◌, ◌≡◌, Bool, true, List, [], ℤ, length, get_or}
 use Rattle.tokens.specs.Format.{longest}
 use Rattle.tokens.specs.declared.Refusal.{Refusal}
-use Rattle.tokens.specs.declared.Outcome.{Outcome}
-use Rattle.tokens.specs.declared.Outcome.TheVariants.{Done, Refused}
+use Rattle.tokens.specs.Refusal.{Outcome}
 use Rattle.machine.specs.Promise.{Verdict, halted, allowed, admitted}
 use Rattle.machine.specs.Readable.{Whole}
 use Rattle.skeleton.specs.Spans.{Placed}
@@ -21,5 +22,5 @@ pub record Goes (s : List ℕ) (allowance : ℤ) (enough : Bool) (t : List ℕ) 
 
 -- what is judged before anything runs
 pub record Admitted (s : List ℕ) (allowance : ℤ) (enough : Bool) (t : List ℕ) (r : Outcome) : Type 0 where
-  pub halts : (w : Refusal) (place : ℕ) → r ≡ Refused w place → (rest : List (List ℕ) → Verdict) → admitted s allowance enough rest ≡ halted w place
-  pub goes : (n : ℕ) → r ≡ Done n → Goes s allowance enough t n
+  pub halts : (w : Refusal) (place : ℕ) → r ≡ Err (refusal_at w place) → (rest : List (List ℕ) → Verdict) → admitted s allowance enough rest ≡ halted w place
+  pub goes : (n : ℕ) → r ≡ Ok n → Goes s allowance enough t n

@@ -1,4 +1,5 @@
 -- What the tests in the operations decide: of MOD and REM, and of the order; and that their products fit. Assumes nothing.
+use Rattle.std.specs.Prelude.{Err}
 use mathlib.Core.Path.{◌≡◌}
 use mathlib.Core.Bool.{cond}
 use Prim.Native.Nat.{ℕ, ◌*◌, ◌^◌, ◌<◌, ◌≤◌}
@@ -8,13 +9,13 @@ use lib.IntN.{ℤ, nat_abs, ◌-ℤ◌, ◌*ℤ◌}
 use lib.Signed.{lt_z}
 use borrow.Author.Tests.{eq-eqb, ne_eqb}
 use Rattle.numbers.specs.declared.Number.{Number}
-use Rattle.numbers.specs.declared.Answer.TheVariants.{ByZero}
-use Rattle.numbers.specs.declared.Order.TheVariants.{Less, Equal, Greater}
+use Rattle.numbers.specs.declared.NoNumber.TheVariants.{ByZero}
+use Rattle.std.specs.declared.cmp.Ordering.TheVariants.{Less, Equal, Greater}
 use Rattle.numbers.specs.Fraction.{ratio_of}
 use Rattle.numbers.specs.Arith.{over, common, less_times, order_of}
 
 -- a - b q
-pub less_times_zero : (a b : Number) (q : ℤ) → nat_abs (over b a) ≡ 0 → ByZero ≡ less_times a b q
+pub less_times_zero : (a b : Number) (q : ℤ) → nat_abs (over b a) ≡ 0 → Err ByZero ≡ less_times a b q
 unfolding less_times
 less_times_zero a b q e = rw (eq-eqb (nat_abs (over b a)) 0 e)
 

@@ -6,7 +6,8 @@ ghost use Rattle.std.specs.Prelude.{◌≡◌, ◌*◌, ◌^◌, ◌<◌, ◌≤
 ghost use Rattle.numbers.specs.Whole.{whole_of};
 ghost use Rattle.numbers.specs.Arith.{over, common, sum_of, difference_of, product_of, quotient_of, negative_of, size_of, whole_from, floor_of, ceiling_of, trunc_of, round_of, less_times, mod_of, rem_of, order_of};
 
-use numbers::{Answer, Number, Order, Whole, lowest, wholes};
+use numbers::{NoNumber, Number, Whole, lowest, wholes};
+use std::cmp::Ordering;
 
 // The numerator.
 fn numerator(a: Number) -> Whole
@@ -37,7 +38,7 @@ fn common_of(a: Number, b: Number) -> Whole
 }
 
 // ADD: a + b.
-pub fn sum(a: Number, b: Number) -> Answer
+pub fn sum(a: Number, b: Number) -> Result<Number, NoNumber>
     ensures { result ≡ sum_of a b }
 {
     lowest::ratio_of(
@@ -47,7 +48,7 @@ pub fn sum(a: Number, b: Number) -> Answer
 }
 
 // SUB: a - b.
-pub fn difference(a: Number, b: Number) -> Answer
+pub fn difference(a: Number, b: Number) -> Result<Number, NoNumber>
     ensures { result ≡ difference_of a b }
 {
     let n = wholes::plus(over_common(a, b), wholes::negated(over_common(b, a)));
@@ -55,52 +56,52 @@ pub fn difference(a: Number, b: Number) -> Answer
 }
 
 // MUL: a × b.
-pub fn product(a: Number, b: Number) -> Answer
+pub fn product(a: Number, b: Number) -> Result<Number, NoNumber>
     ensures { result ≡ product_of a b }
 {
     lowest::ratio_of(wholes::times(numerator(a), numerator(b)), common_of(a, b))
 }
 
 // DIV: a / b.
-pub fn quotient(a: Number, b: Number) -> Answer
+pub fn quotient(a: Number, b: Number) -> Result<Number, NoNumber>
     ensures { result ≡ quotient_of a b }
 {
     lowest::ratio_of(over_common(a, b), over_common(b, a))
 }
 
 // NEG: -a.
-pub fn negative(a: Number) -> Answer
+pub fn negative(a: Number) -> Result<Number, NoNumber>
     ensures { result ≡ negative_of a }
 {
     lowest::ratio_of(wholes::negated(numerator(a)), denominator(a))
 }
 
 // ABS: |a|.
-pub fn size(a: Number) -> Answer
+pub fn size(a: Number) -> Result<Number, NoNumber>
     ensures { result ≡ size_of a }
 {
     lowest::ratio_of(wholes::natural(numerator(a).size), denominator(a))
 }
 
 // The whole number z, made of a.
-fn whole_from(a: Number, z: Whole) -> Answer
+fn whole_from(a: Number, z: Whole) -> Result<Number, NoNumber>
     ensures { result ≡ whole_from a (whole_of z) }
 {
     if a.den == 0 {
-        return Answer::ByZero;
+        return Err(NoNumber::ByZero);
     }
     lowest::ratio_of(z, wholes::natural(1))
 }
 
 // FLOOR: the greatest integer that is not above a.
-pub fn floor(a: Number) -> Answer
+pub fn floor(a: Number) -> Result<Number, NoNumber>
     ensures { result ≡ floor_of a }
 {
     whole_from(a, wholes::rounded_down(numerator(a), a.den as u64))
 }
 
 // CEILING: the least integer that is not below a, which is minus the floor of -a.
-pub fn ceiling(a: Number) -> Answer
+pub fn ceiling(a: Number) -> Result<Number, NoNumber>
     ensures { result ≡ ceiling_of a }
 {
     let den = a.den as u64;
@@ -109,7 +110,7 @@ pub fn ceiling(a: Number) -> Answer
 }
 
 // TRUNC: the integer part of a.
-pub fn trunc(a: Number) -> Answer
+pub fn trunc(a: Number) -> Result<Number, NoNumber>
     ensures { result ≡ trunc_of a }
 {
     let den = a.den as u64;
@@ -117,7 +118,7 @@ pub fn trunc(a: Number) -> Answer
 }
 
 // ROUND: the floor of a + 1/2, which is (2 n + d) / 2 d.
-pub fn round(a: Number) -> Answer
+pub fn round(a: Number) -> Result<Number, NoNumber>
     ensures { result ≡ round_of a }
 {
     let twice = wholes::times(numerator(a), wholes::natural(2));
@@ -126,17 +127,17 @@ pub fn round(a: Number) -> Answer
 }
 
 // a - b × q, where `rest` is its numerator over the product of the denominators.
-fn rest_over(a: Number, b: Number, rest: Whole) -> Answer
+fn rest_over(a: Number, b: Number, rest: Whole) -> Result<Number, NoNumber>
     ensures { (q : ℤ) → whole_of rest ≡ over a b -ℤ over b a *ℤ q → result ≡ less_times a b q }
 {
     if over_common(b, a).size == 0 {
-        return Answer::ByZero;
+        return Err(NoNumber::ByZero);
     }
     lowest::ratio_of(rest, common_of(a, b))
 }
 
 // MOD: a - b × FLOOR(a/b).
-pub fn modulo(a: Number, b: Number) -> Answer
+pub fn modulo(a: Number, b: Number) -> Result<Number, NoNumber>
     ensures { result ≡ mod_of a b }
 {
     rest_over(
@@ -147,7 +148,7 @@ pub fn modulo(a: Number, b: Number) -> Answer
 }
 
 // REM: a - b × TRUNC(a/b).
-pub fn remainder(a: Number, b: Number) -> Answer
+pub fn remainder(a: Number, b: Number) -> Result<Number, NoNumber>
     ensures { result ≡ rem_of a b }
 {
     rest_over(
@@ -158,16 +159,16 @@ pub fn remainder(a: Number, b: Number) -> Answer
 }
 
 // Which of the two is the larger.
-pub fn compare(a: Number, b: Number) -> Order
+pub fn compare(a: Number, b: Number) -> Ordering
     ensures { result ≡ order_of a b }
 {
     let x = over_common(a, b);
     let y = over_common(b, a);
     if wholes::less(x, y) {
-        Order::Less
+        Ordering::Less
     } else if wholes::less(y, x) {
-        Order::Greater
+        Ordering::Greater
     } else {
-        Order::Equal
+        Ordering::Equal
     }
 }

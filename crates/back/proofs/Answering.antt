@@ -1,4 +1,7 @@
 -- What `read_back` answers and leaves, by its tests. Assumes nothing.
+use Rattle.std.specs.Prelude.{Ok, Err}
+use Rattle.tokens.specs.Refusal.{refusal_at}
+use Rattle.filling.specs.Filling.{survey}
 use mathlib.Core.Path.{◌≡◌, refl, ap, ◌∙◌}
 use mathlib.Core.Bool.{true, false}
 use mathlib.Core.List.{List}
@@ -9,11 +12,9 @@ use lib.ListN.{length}
 use borrow.Author.Tests.{le-leb, lt-leb}
 use Rattle.numbers.proofs.Cond.{no_left, no_right}
 use Rattle.table.proofs.Stores.{front}
-use Rattle.tokens.specs.declared.Outcome.TheVariants.{Done, Refused}
 use Rattle.tokens.specs.declared.Refusal.{Refusal}
 use Rattle.tokens.specs.declared.Refusal.TheVariants.{BadHeader, TooLong, TableTooShort}
 use Rattle.tokens.specs.Format.{header, starts}
-use Rattle.lists.specs.declared.Survey.TheVariants.{Sound, Broken}
 use Rattle.items.specs.Tokens.{Token}
 use Rattle.lists.specs.Reading.{Got, got, refused, read_list}
 use Rattle.lists.specs.Promise.{over, texts_of, list_of, holds, read_answer, list_leaves, text_leaves, ReadsBack}
@@ -22,12 +23,12 @@ use Rattle.lists.proofs.SameTables.{list_length}
 
 -- ---- the survey's answer
 
-broken_is : (G : Got) (refusal : Refusal) (place : ℕ) → Broken refusal place ≡ survey_of G → G ≡ refused refusal place
+broken_is : (G : Got) (refusal : Refusal) (place : ℕ) → Err (refusal_at refusal place) ≡ survey_of G → G ≡ refused refusal place
 unfolding survey_of
 broken_is (got ts) refusal place e = absurd (let z : ◌≡◌ {A = ℕ} 0 1 = cc in omega arith)
 broken_is (refused w q) refusal place e = let a : w ≡ refusal = cc in let b : q ≡ place = cc in rw (a, b)
 
-sound_is : (G : Got) (c x : ℕ) → Sound c x ≡ survey_of G → (ts : List Token) × (G ≡ got ts) × (c ≡ length ts) × (x ≡ length (texts_of ts))
+sound_is : (G : Got) (c x : ℕ) → Ok (survey c x) ≡ survey_of G → (ts : List Token) × (G ≡ got ts) × (c ≡ length ts) × (x ≡ length (texts_of ts))
 unfolding survey_of
 sound_is (got ts) c x e = (ts, refl, cc, cc)
 sound_is (refused w q) c x e = absurd (let z : ◌≡◌ {A = ℕ} 0 1 = cc in omega arith)
@@ -38,18 +39,18 @@ sound_is (refused w q) c x e = absurd (let z : ◌≡◌ {A = ℕ} 0 1 = cc in o
 pub record Sounds (s : List ℕ) (c x : ℕ) : Type 0 where
   pub small : length s ≤ 16777215
   pub headed : starts header s ≡ true
-  pub surveyed : Sound c x ≡ survey_of (tokens_in s)
+  pub surveyed : Ok (survey c x) ≡ survey_of (tokens_in s)
 
 module _ (s list text : List ℕ) where
-  unread : (refusal : Refusal) (place : ℕ) → read_list s ≡ refused refusal place → ReadsBack s list list text text (Refused refusal place)
+  unread : (refusal : Refusal) (place : ℕ) → read_list s ≡ refused refusal place → ReadsBack s list list text text (Err (refusal_at refusal place))
   unfolding read_answer list_leaves text_leaves
   unread refusal place e = record { answer = rw e; list_left = rw e; text_left = rw e }
 
-  pub end_long : 16777215 < length s → ReadsBack s list list text text (Refused TooLong 0)
+  pub end_long : 16777215 < length s → ReadsBack s list list text text (Err (refusal_at TooLong 0))
   unfolding read_list
   end_long h = unread TooLong 0 (rw (lt-leb (length s) 16777215 h))
 
-  pub end_header : length s ≤ 16777215 → starts header s ≡ false → ReadsBack s list list text text (Refused BadHeader 0)
+  pub end_header : length s ≤ 16777215 → starts header s ≡ false → ReadsBack s list list text text (Err (refusal_at BadHeader 0))
   unfolding read_list
   end_header h f = unread BadHeader 0 (rw (le-leb (length s) 16777215 h, f))
 
@@ -57,7 +58,7 @@ module _ (s list text : List ℕ) where
   unfolding read_list
   goes_on h f = rw (le-leb (length s) 16777215 h, f)
 
-  pub end_broken : length s ≤ 16777215 → starts header s ≡ true → {refusal : Refusal} {place : ℕ} → Broken refusal place ≡ survey_of (tokens_in s) → ReadsBack s list list text text (Refused refusal place)
+  pub end_broken : length s ≤ 16777215 → starts header s ≡ true → {refusal : Refusal} {place : ℕ} → Err (refusal_at refusal place) ≡ survey_of (tokens_in s) → ReadsBack s list list text text (Err (refusal_at refusal place))
   end_broken h f {refusal} {place} e = unread refusal place (goes_on h f ∙ broken_is (tokens_in s) refusal place e)
 
   module _ {c x : ℕ} (S : Sounds s c x) where
@@ -82,21 +83,21 @@ module _ (s list text : List ℕ) where
     on : read_list s ≡ got ts
     on = goes_on S.small S.headed ∙ is_got
 
-    too_short : holds ts (length list) (length text) ≡ false → ReadsBack s list list text text (Refused TableTooShort 0)
+    too_short : holds ts (length list) (length text) ≡ false → ReadsBack s list list text text (Err (refusal_at TableTooShort 0))
     unfolding read_answer list_leaves text_leaves
     too_short m = record { answer = rw (on, m); list_left = rw (on, m); text_left = rw (on, m) }
 
-    pub end_list : length list / 16 < c → ReadsBack s list list text text (Refused TableTooShort 0)
+    pub end_list : length list / 16 < c → ReadsBack s list list text text (Err (refusal_at TableTooShort 0))
     end_list k = too_short (no_left (leb (length (list_of 0 ts)) (length list)) (leb (length (texts_of ts)) (length text)) (lt-leb (length (list_of 0 ts)) (length list) (omega (arith, words))))
 
-    pub end_text : length text < x → ReadsBack s list list text text (Refused TableTooShort 0)
+    pub end_text : length text < x → ReadsBack s list list text text (Err (refusal_at TableTooShort 0))
     end_text k = too_short (no_right (leb (length (list_of 0 ts)) (length list)) (leb (length (texts_of ts)) (length text)) (lt-leb (length (texts_of ts)) (length text) (omega (arith, texts))))
 
     module _ (a : c ≤ length list / 16) (b : x ≤ length text) where
       pub end_holds : Holds (tokens_in s) (length list) (length text)
       end_holds = rw is_got (omega (arith, words), omega (arith, texts))
 
-      pub end_done : {list' text' : List ℕ} → Fills (tokens_got (tokens_in s)) list list' text text' → ReadsBack s list list' text text' (Done c)
+      pub end_done : {list' text' : List ℕ} → Fills (tokens_got (tokens_in s)) list list' text text' → ReadsBack s list list' text text' (Ok c)
       unfolding read_answer list_leaves text_leaves tokens_got over
       end_done {list'} {text'} m =
           let n : Fills ts list list' text text' = rw is_got at m in
@@ -105,7 +106,7 @@ module _ (s list text : List ℕ) where
           let u = le-leb (length (list_of 0 ts)) (length list) l in
           let v = le-leb (length (texts_of ts)) (length text) t in
           record {
-            answer = rw (on, u, v) (ap Done count);
+            answer = rw (on, u, v) (ap Ok count);
             list_left = rw (on, u, v) (n.list_is ∙ front list (list_of 0 ts) l);
             text_left = rw (on, u, v) (n.text_is ∙ front text (texts_of ts) t);
           }

@@ -1,4 +1,6 @@
 -- Every body of a master run. In order: the promise of `run`; what was judged before. Assumes nothing.
+use Rattle.std.specs.Prelude.{Ok, Err}
+use Rattle.tokens.specs.Refusal.{refusal_at}
 use Prim.Native.Nat.{ℕ, ◌+◌, ◌≤◌}
 use native.Mathlib.Omega.{arith}
 use mathlib.Core.Path.{◌≡◌, refl, sym, ap, ◌∙◌}
@@ -11,8 +13,7 @@ use lib.ListN.{length, drop, replicate, length-replicate}
 use borrow.Author.Tests.{leb-true}
 use Rattle.numbers.proofs.Cond.{either, both}
 use Rattle.tokens.specs.declared.Refusal.{Refusal}
-use Rattle.tokens.specs.declared.Outcome.{Outcome}
-use Rattle.tokens.specs.declared.Outcome.TheVariants.{Done, Refused}
+use Rattle.tokens.specs.Refusal.{Outcome}
 use Rattle.machine.specs.Limits.{most_steps, scratch_size, rows_size}
 use Rattle.machine.specs.Step.{outcome}
 use Rattle.machine.specs.Page.{preamble_end, preamble_of}
@@ -40,7 +41,7 @@ module _ (s : List ℕ) (z : ℤ) (scratch rows : List ℕ) where
   abbrev enough : Bool
   enough = leb scratch_size (length scratch) && leb rows_size (length rows)
 
-  pub run_halts : (t : List ℕ) (w : Refusal) (p : ℕ) (r : Outcome) → Admitted s z enough t (Refused w p) → r ≡ Refused w p → Runs s z scratch scratch rows rows r
+  pub run_halts : (t : List ℕ) (w : Refusal) (p : ℕ) (r : Outcome) → Admitted s z enough t (Err (refusal_at w p)) → r ≡ Err (refusal_at w p) → Runs s z scratch scratch rows rows r
   unfolding run_verdict run_answer scratch_leaves rows_leaves
   run_halts t w p r d e = let h : run_verdict s z scratch rows ≡ halted w p = d.halts w p refl (finished z) in
       record { answer = rw h e; scratch_left = rw h refl; rows_left = rw h refl }
@@ -56,10 +57,10 @@ module _ (s : List ℕ) (z : ℤ) (scratch rows : List ℕ) where
 
 -- ---- what `admit` tells its callers, of an allowance x that is z in memory
 
-pub came : {s t : List ℕ} {x z : ℤ} {b c : Bool} {r : Outcome} {n : ℕ} → x ≡ z → b ≡ c → Admitted s x b t r → r ≡ Done n → Goes s z c t n
+pub came : {s t : List ℕ} {x z : ℤ} {b c : Bool} {r : Outcome} {n : ℕ} → x ≡ z → b ≡ c → Admitted s x b t r → r ≡ Ok n → Goes s z c t n
 came e f d g = rw (e, f) at (d.goes _ g)
 
-pub stays : {s t : List ℕ} {x z : ℤ} {b c : Bool} {r : Outcome} {w : Refusal} {p : ℕ} → x ≡ z → b ≡ c → Admitted s x b t r → r ≡ Refused w p → Admitted s z c t (Refused w p)
+pub stays : {s t : List ℕ} {x z : ℤ} {b c : Bool} {r : Outcome} {w : Refusal} {p : ℕ} → x ≡ z → b ≡ c → Admitted s x b t r → r ≡ Err (refusal_at w p) → Admitted s z c t (Err (refusal_at w p))
 stays e f d g = rw (e, f, g) at d
 
 module _ {s t : List ℕ} {z : ℤ} {b : Bool} {last : ℕ} (g : Goes s z b t last) where

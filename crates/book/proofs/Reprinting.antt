@@ -1,4 +1,6 @@
 -- One body of a master reprinted: the promise of `reprint`. Assumes nothing.
+use Rattle.std.specs.Prelude.{Err}
+use Rattle.tokens.specs.Refusal.{refusal_at}
 use Prim.Native.Nat.{ℕ, ◌+◌, ◌<◌, ◌≤◌}
 use native.Mathlib.Omega.{arith}
 use mathlib.Core.Path.{◌≡◌, refl, sym, ap, ◌∙◌}
@@ -12,8 +14,7 @@ use borrow.Author.Tests.{leb-true, lt-leb, le-leb, lt-ltb, le-ltb}
 use Rattle.numbers.proofs.Cond.{both, split}
 use Rattle.tokens.specs.declared.Refusal.{Refusal}
 use Rattle.tokens.specs.declared.Refusal.TheVariants.{NoSuchPage}
-use Rattle.tokens.specs.declared.Outcome.{Outcome}
-use Rattle.tokens.specs.declared.Outcome.TheVariants.{Refused}
+use Rattle.tokens.specs.Refusal.{Outcome}
 use Rattle.machine.specs.Limits.{most_pages, scratch_size, rows_size, sections_size}
 use Rattle.machine.specs.Promise.{halted, finished, scratch_leaves, paged, reprint_verdict, reprint_answer, row_leaves, sections_leaves, Reprints}
 use Rattle.skeleton.specs.Spans.{Placed}
@@ -38,16 +39,16 @@ module _ (s : List ℕ) (z page : ℤ) (scratch rows sections : List ℕ) where
   abbrev enough : Bool
   enough = leb scratch_size (length scratch) && (leb rows_size (length rows) && leb sections_size (length sections))
 
-  untouched : (w : Refusal) (p : ℕ) (r : Outcome) → reprint_verdict s z page scratch rows sections ≡ halted w p → r ≡ Refused w p → Reprints s z page scratch scratch rows rows sections sections r
+  untouched : (w : Refusal) (p : ℕ) (r : Outcome) → reprint_verdict s z page scratch rows sections ≡ halted w p → r ≡ Err (refusal_at w p) → Reprints s z page scratch scratch rows rows sections sections r
   unfolding reprint_answer scratch_leaves row_leaves sections_leaves
   untouched w p r h e = record { answer = rw h e; scratch_left = rw h refl; rows_left = rw h refl; sections_left = rw h refl }
 
-  pub reprint_halts : (t : List ℕ) (w : Refusal) (p : ℕ) (r : Outcome) → Admitted s z enough t (Refused w p) → r ≡ Refused w p → Reprints s z page scratch scratch rows rows sections sections r
+  pub reprint_halts : (t : List ℕ) (w : Refusal) (p : ℕ) (r : Outcome) → Admitted s z enough t (Err (refusal_at w p)) → r ≡ Err (refusal_at w p) → Reprints s z page scratch scratch rows rows sections sections r
   unfolding reprint_verdict
   reprint_halts t w p r d e = untouched w p r (d.halts w p refl (paged z page)) e
 
   module _ (t : List ℕ) (last : ℕ) (g : Goes s z enough t last) where
-    pub no_page : (r : Outcome) → le_z (pos 0) page && le_z page (pos last) ≡ false → r ≡ Refused NoSuchPage 0 → Reprints s z page scratch scratch rows rows sections sections r
+    pub no_page : (r : Outcome) → le_z (pos 0) page && le_z page (pos last) ≡ false → r ≡ Err (refusal_at NoSuchPage 0) → Reprints s z page scratch scratch rows rows sections sections r
     unfolding reprint_verdict paged
     no_page r e f = untouched NoSuchPage 0 r (g.verdict (paged z page) ∙ (rw (sym (page_there page last (length g.bodies) g.many) ∙ e))) f
 

@@ -1,4 +1,7 @@
 -- The loop that fills the two tables, a token at a turn. In order: the tables only grow; a turn; the end. Assumes nothing.
+use Rattle.std.specs.Prelude.{Result, Ok, Err}
+use Rattle.tokens.specs.Refusal.{refusal_at}
+use Rattle.tokens.specs.declared.Refused.{Refused}
 use mathlib.Core.Path.{◌≡◌, refl, sym, subst, ◌∙◌}
 use mathlib.Core.List.{List, ◌++◌}
 use Prim.Native.Nat.{ℕ, zero, suc, ◌+◌, ◌-◌, ◌<◌, ◌≤◌}
@@ -9,7 +12,7 @@ use lib.ListN.{length, length-append}
 use lib.Seq.{sets}
 use Rattle.table.proofs.Stores.{sets_append}
 use Rattle.tokens.specs.declared.Read.{Read}
-use Rattle.tokens.specs.declared.Read.TheVariants.{Number, Identifier, String, Operator, Comment, Unread}
+use Rattle.tokens.specs.declared.Read.TheVariants.{Number, Identifier, String, Operator, Comment}
 use Rattle.tokens.specs.declared.Refusal.{Refusal}
 use Rattle.tokens.specs.Token.{token_at}
 use Rattle.points.specs.Point.{next_of}
@@ -42,20 +45,20 @@ above_same : (ts : List Token) → Above ts (got ts)
 above_same ts = (le_refl (length (list_of 0 ts)), le_refl (length (texts_of ts)))
 
 -- a token is whole or a refusal
-by_whole : {A : Type 0} (t : Read) → (Whole t → A) → ((refusal : Refusal) (place : ℕ) → t ≡ Unread refusal place → A) → A
-by_whole (Number value next) f g = f tt
-by_whole (Identifier len next) f g = f tt
-by_whole (String count next) f g = f tt
-by_whole (Operator n next) f g = f tt
-by_whole (Comment next) f g = f tt
-by_whole (Unread refusal place) f g = g refusal place refl
+by_whole : {A : Type 0} (t : Result Read Refused) → (Whole t → A) → ((refusal : Refusal) (place : ℕ) → t ≡ Err (refusal_at refusal place) → A) → A
+by_whole (Ok (Number value next)) f g = f tt
+by_whole (Ok (Identifier len next)) f g = f tt
+by_whole (Ok (String count next)) f g = f tt
+by_whole (Ok (Operator n next)) f g = f tt
+by_whole (Ok (Comment next)) f g = f tt
+by_whole (Err w) f g = g w.refusal w.place refl
 
-on_above : (s : List ℕ) (at : ℕ) (ts : List Token) (t : Read) (more : ℕ → List Token → Got) → ((n : ℕ) (us : List Token) → Above us (more n us)) → Above ts (on_read s at ts t more)
+on_above : (s : List ℕ) (at : ℕ) (ts : List Token) (t : Result Read Refused) (more : ℕ → List Token → Got) → ((n : ℕ) (us : List Token) → Above us (more n us)) → Above ts (on_read s at ts t more)
 unfolding on_read
 on_above s at ts t more f =
     by_whole t
     (λ w. subst (Above ts) (sym (on_go s at ts t more w)) (more_tokens ts (added s at t) (more (next_of at t) (ts ++ added s at t)) (f (next_of at t) (ts ++ added s at t))))
-    (λ refusal place e. subst (λ (u : Read). Above ts (on_read s at ts u more)) (sym e) tt)
+    (λ refusal place e. subst (λ (u : Result Read Refused). Above ts (on_read s at ts u more)) (sym e) tt)
 
 above : (k : ℕ) (s : List ℕ) (at : ℕ) (ts : List Token) → Above ts (read_from k s at ts)
 unfolding read_from
@@ -88,7 +91,7 @@ stored_on : (l₀ l l' a b ab : List ℕ) (n : ℕ) → n ≡ length a → ab �
 stored_on l₀ l l' a b ab n e f g h = h ∙ rw (g, e, f) (rw (zero-add (length a)) at (sets_append l₀ 0 a b))
 
 module _ {G : Got} {s list₀ list text₀ text : List ℕ} {k at p o : ℕ} {ts : List Token} (F : Filled G s list₀ list text₀ text k at p o ts)
-    (small : length s ≤ 16777215) (fits : Holds G (length list₀) (length text₀)) (h : at < length s) {t : Read} (e : t ≡ token_at s at) where
+    (small : length s ≤ 16777215) (fits : Holds G (length list₀) (length text₀)) (h : at < length s) {t : Result Read Refused} (e : t ≡ token_at s at) where
   t_whole : Whole t
   t_whole = by_whole t (λ w. w) (λ refusal place f. absurd (subst (λ (K : Got). Holds K (length list₀) (length text₀)) (read_stop G k s at ts F.room F.rest h refusal place (sym e ∙ f)) fits))
 

@@ -1,4 +1,7 @@
 -- What each kind of token puts into the two tables. Assumes nothing.
+use Rattle.std.specs.Prelude.{Result, Ok, Err}
+use Rattle.tokens.specs.Refusal.{refusal_at}
+use Rattle.tokens.specs.declared.Refused.{Refused}
 use mathlib.Core.Path.{◌≡◌, refl, sym, ap, subst, ◌∙◌}
 use mathlib.Core.Bool.{Bool, true, false}
 use mathlib.Core.List.{List, [], ◌∷◌, ◌++◌, append_assoc, append-nil}
@@ -12,7 +15,7 @@ use Rattle.numbers.specs.declared.Number as numbers
 use Rattle.table.specs.Words.{word_bytes}
 use Rattle.table.proofs.Stores.{sets_append, word_length}
 use Rattle.tokens.specs.declared.Read.{Read}
-use Rattle.tokens.specs.declared.Read.TheVariants.{Number, Identifier, String, Operator, Comment, Unread}
+use Rattle.tokens.specs.declared.Read.TheVariants.{Number, Identifier, String, Operator, Comment}
 use Rattle.tokens.specs.declared.Refusal.{Refusal}
 use Rattle.tokens.specs.Joined.{joined_at, FitsText}
 use Rattle.points.specs.Point.{next_of}
@@ -49,25 +52,25 @@ unfolding list_of
 list_one o t = append-nil (words_of o t)
 
 -- the token t at `at` is an identifier or a string of len bytes, with the words of its kind
-pub record IsText (s : List ℕ) (at : ℕ) (t : Read) (lower : Bool) (kind len next : ℕ) : Type 0 where
+pub record IsText (s : List ℕ) (at : ℕ) (t : Result Read Refused) (lower : Bool) (kind len next : ℕ) : Type 0 where
   pub rule : List ℕ → Bool
   pub adds : added s at t ≡ text_token lower (shown lower (data_of (joined_at s at))) ∷ []
   pub ends : next_of at t ≡ next
   pub told : Text s at len next rule
   pub words : (o : ℕ) (d : List ℕ) → words_of o (text_token lower d) ≡ four_words kind o (length d)
 
-module _ (s : List ℕ) (at : ℕ) (t : Read) (known : Told s at t) {len next : ℕ} where
-  pub identifier_is : t ≡ Identifier len next → IsText s at t true 2 len next
+module _ (s : List ℕ) (at : ℕ) (t : Result Read Refused) (known : Told s at t) {len next : ℕ} where
+  pub identifier_is : t ≡ Ok (Identifier len next) → IsText s at t true 2 len next
   unfolding added text_token shown words_of
   identifier_is e = record { rule = is_name Named; adds = rw e; ends = rw e; told = subst (Told s at) e known; words = λ o d. refl }
 
-  pub string_is : t ≡ String len next → IsText s at t false 3 len next
+  pub string_is : t ≡ Ok (String len next) → IsText s at t false 3 len next
   unfolding added text_token shown words_of
   string_is e = record { rule = every Plain; adds = rw e; ends = rw e; told = subst (Told s at) e known; words = λ o d. refl }
 
 -- ---- what is put
 
-module _ {s : List ℕ} {at : ℕ} {t : Read} {p o : ℕ} {list text : List ℕ} (R : Room s at t p o list text) where
+module _ {s : List ℕ} {at : ℕ} {t : Result Read Refused} {p o : ℕ} {list text : List ℕ} (R : Room s at t p o list text) where
   one_room : (tok : Token) → added s at t ≡ tok ∷ [] → (p + 16 ≤ length list) × (o + length (text_of tok) ≤ length text)
   one_room tok e =
       let a = rw (e, list_one o tok, words_length o tok) at R.list_room in
@@ -85,27 +88,27 @@ module _ {s : List ℕ} {at : ℕ} {t : Read} {p o : ℕ} {list text : List ℕ}
         text_is = rw (e, text_one tok) x;
       }
 
-  pub number_room : {value : numbers.Number} {next : ℕ} → t ≡ Number value next → p + 16 ≤ length list
+  pub number_room : {value : numbers.Number} {next : ℕ} → t ≡ Ok (Number value next) → p + 16 ≤ length list
   unfolding added
   number_room {value} e = (one_room (number value) (rw e)).0
 
-  pub number_put : {value : numbers.Number} {next : ℕ} → t ≡ Number value next → {list' : List ℕ} → list' ≡ sets list p (four_words 1 (of_z w32 value.num) value.den) → Put s at t p o list list' text text (record { at = next; p = p + 16; o = o })
+  pub number_put : {value : numbers.Number} {next : ℕ} → t ≡ Ok (Number value next) → {list' : List ℕ} → list' ≡ sets list p (four_words 1 (of_z w32 value.num) value.den) → Put s at t p o list list' text text (record { at = next; p = p + 16; o = o })
   unfolding added text_of words_of
   number_put {value} {next} e {list'} l = made list' text (number value) next o (rw e) (rw e) l refl (omega arith)
 
-  pub operator_room : {n next : ℕ} → t ≡ Operator n next → p + 16 ≤ length list
+  pub operator_room : {n next : ℕ} → t ≡ Ok (Operator n next) → p + 16 ≤ length list
   unfolding added
   operator_room {n} e = (one_room (operator n) (rw e)).0
 
-  pub operator_put : {n next : ℕ} → t ≡ Operator n next → {list' : List ℕ} → list' ≡ sets list p (four_words 4 n 0) → Put s at t p o list list' text text (record { at = next; p = p + 16; o = o })
+  pub operator_put : {n next : ℕ} → t ≡ Ok (Operator n next) → {list' : List ℕ} → list' ≡ sets list p (four_words 4 n 0) → Put s at t p o list list' text text (record { at = next; p = p + 16; o = o })
   unfolding added text_of words_of
   operator_put {n} {next} e {list'} l = made list' text (operator n) next o (rw e) (rw e) l refl (omega arith)
 
-  pub comment_put : {next : ℕ} → t ≡ Comment next → Put s at t p o list list text text (record { at = next; p = p; o = o })
+  pub comment_put : {next : ℕ} → t ≡ Ok (Comment next) → Put s at t p o list list text text (record { at = next; p = p; o = o })
   unfolding added list_of texts_of
   comment_put e = record { to = rw e; list_place = rw e (omega arith); text_place = rw e (omega arith); list_is = rw e; text_is = rw e }
 
-  pub no_refusal : {refusal : Refusal} {place : ℕ} → t ≡ Unread refusal place → ⊥
+  pub no_refusal : {refusal : Refusal} {place : ℕ} → t ≡ Err (refusal_at refusal place) → ⊥
   no_refusal e = subst Whole e R.is_whole
 
   module _ {lower : Bool} {kind len next : ℕ} (T : IsText s at t lower kind len next) where

@@ -1,5 +1,9 @@
 -- The tokens of a list that is read back, one at a turn: what a token adds, and the survey that counts them. In order: texts and words
 -- of two lists; what a token adds; the rest of the list after it; the survey. Assumes nothing.
+use Rattle.std.specs.Prelude.{Result, Ok, Err}
+use Rattle.tokens.specs.Refusal.{refusal_at}
+use Rattle.tokens.specs.declared.Refused.{Refused}
+use Rattle.filling.specs.Filling.{survey}
 use mathlib.Core.Path.{◌≡◌, refl, sym, ap, subst, ◌∙◌}
 use mathlib.Core.Bool.{Bool, true, false}
 use mathlib.Core.List.{List, [], ◌∷◌, ◌++◌, append_assoc, append-nil}
@@ -8,15 +12,13 @@ use native.Mathlib.Omega.{arith}
 use lib.ListN.{length, length-append}
 use borrow.Author.Tests.{lt-ltb, le-ltb}
 use Rattle.tokens.specs.declared.Read.{Read}
-use Rattle.tokens.specs.declared.Read.TheVariants.{Number, Identifier, String, Operator, Comment, Unread}
+use Rattle.tokens.specs.declared.Read.TheVariants.{Number, Identifier, String, Operator, Comment}
 use Rattle.tokens.specs.declared.Refusal.{Refusal}
 use Rattle.tokens.specs.Joined.{joined_at}
 use Rattle.tokens.specs.Token.{token_at}
 use Rattle.points.specs.Point.{next_of}
 use Rattle.tokens.proofs.Told.{Told, Text}
 use Rattle.lists.specs.declared.Step.{Step}
-use Rattle.lists.specs.declared.Step.TheVariants.{Go, Stop}
-use Rattle.lists.specs.declared.Survey.TheVariants.{Sound, Broken}
 use Rattle.items.specs.Tokens.{Token}
 use Rattle.lists.specs.Reading.{Got, got, refused, on_read, read_from}
 use Rattle.tokens.specs.Joined.{data_of}
@@ -59,7 +61,7 @@ texts_length lower {s} {at} k = ap length (text_one (text_token lower (shown low
 -- ---- what a token adds
 
 -- a token that adds a tokens and m bytes of text, and ends at n
-pub record Goes (s : List ℕ) (at : ℕ) (t : Read) (a m n : ℕ) : Type 0 where
+pub record Goes (s : List ℕ) (at : ℕ) (t : Result Read Refused) (a m n : ℕ) : Type 0 where
   pub is_whole : Whole t
   pub to_next : next_of at t ≡ n
   pub adds : length (added s at t) ≡ a
@@ -68,35 +70,35 @@ pub record Goes (s : List ℕ) (at : ℕ) (t : Read) (a m n : ℕ) : Type 0 wher
   pub later : at + m < n
   pub inside : n ≤ length s
 
-abbrev pub Steps : List ℕ → ℕ → Read → Step → Type 0
-Steps s at t (Go a m n) = Goes s at t a m n
-Steps s at t (Stop refusal place) = t ≡ Unread refusal place
+abbrev pub Steps : List ℕ → ℕ → Result Read Refused → Result Step Refused → Type 0
+Steps s at t (Ok p) = Goes s at t p.adds p.text p.next
+Steps s at t (Err w) = t ≡ Err w
 
-pub steps : (s : List ℕ) (at : ℕ) (t : Read) → Told s at t → Steps s at t (step_of t)
+pub steps : (s : List ℕ) (at : ℕ) (t : Result Read Refused) → Told s at t → Steps s at t (step_of t)
 unfolding added texts_of text_of text_token shown
-steps s at (Number value next) k = record { is_whole = tt; to_next = refl; adds = refl; text = refl; few = omega arith; later = omega (arith, k.1.0); inside = k.1.1 }
-steps s at (Identifier len next) k = record { is_whole = tt; to_next = refl; adds = refl; text = texts_length true k; few = omega arith; later = k.longer; inside = k.inside }
-steps s at (String count next) k = record { is_whole = tt; to_next = refl; adds = refl; text = texts_length false k; few = omega arith; later = k.longer; inside = k.inside }
-steps s at (Operator n next) k = record { is_whole = tt; to_next = refl; adds = refl; text = refl; few = omega arith; later = omega (arith, k.1.0); inside = k.1.1 }
-steps s at (Comment next) k = record { is_whole = tt; to_next = refl; adds = refl; text = refl; few = omega arith; later = omega (arith, k.0); inside = k.1 }
-steps s at (Unread refusal place) k = refl
+steps s at (Ok (Number value next)) k = record { is_whole = tt; to_next = refl; adds = refl; text = refl; few = omega arith; later = omega (arith, k.1.0); inside = k.1.1 }
+steps s at (Ok (Identifier len next)) k = record { is_whole = tt; to_next = refl; adds = refl; text = texts_length true k; few = omega arith; later = k.longer; inside = k.inside }
+steps s at (Ok (String count next)) k = record { is_whole = tt; to_next = refl; adds = refl; text = texts_length false k; few = omega arith; later = k.longer; inside = k.inside }
+steps s at (Ok (Operator n next)) k = record { is_whole = tt; to_next = refl; adds = refl; text = refl; few = omega arith; later = omega (arith, k.1.0); inside = k.1.1 }
+steps s at (Ok (Comment next)) k = record { is_whole = tt; to_next = refl; adds = refl; text = refl; few = omega arith; later = omega (arith, k.0); inside = k.1 }
+steps s at (Err w) k = refl
 
 -- a token ends past its text
-pub reaches : (s : List ℕ) (at : ℕ) (t : Read) → Told s at t → Whole t → at + length (texts_of (added s at t)) < next_of at t
+pub reaches : (s : List ℕ) (at : ℕ) (t : Result Read Refused) → Told s at t → Whole t → at + length (texts_of (added s at t)) < next_of at t
 reaches s at t k w = by_step (step_of t) (steps s at t k)
   where
-    by_step : (p : Step) → Steps s at t p → at + length (texts_of (added s at t)) < next_of at t
-    by_step (Go a m n) g = omega (arith, g.later, g.to_next, g.text)
-    by_step (Stop refusal place) g = absurd (subst Whole g w)
+    by_step : (p : Result Step Refused) → Steps s at t p → at + length (texts_of (added s at t)) < next_of at t
+    by_step (Ok p) g = omega (arith, g.later, g.to_next, g.text)
+    by_step (Err why) g = absurd (subst Whole g w)
 
-pub on_go : (s : List ℕ) (at : ℕ) (ts : List Token) (t : Read) (more : ℕ → List Token → Got) → Whole t → on_read s at ts t more ≡ more (next_of at t) (ts ++ added s at t)
+pub on_go : (s : List ℕ) (at : ℕ) (ts : List Token) (t : Result Read Refused) (more : ℕ → List Token → Got) → Whole t → on_read s at ts t more ≡ more (next_of at t) (ts ++ added s at t)
 unfolding on_read added
-on_go s at ts (Number value next) more w = refl
-on_go s at ts (Identifier len next) more w = refl
-on_go s at ts (String count next) more w = refl
-on_go s at ts (Operator n next) more w = refl
-on_go s at ts (Comment next) more w = ap (more next) (sym (append-nil ts))
-on_go s at ts (Unread refusal place) more w = absurd w
+on_go s at ts (Ok (Number value next)) more w = refl
+on_go s at ts (Ok (Identifier len next)) more w = refl
+on_go s at ts (Ok (String count next)) more w = refl
+on_go s at ts (Ok (Operator n next)) more w = refl
+on_go s at ts (Ok (Comment next)) more w = ap (more next) (sym (append-nil ts))
+on_go s at ts (Err why) more w = absurd w
 
 -- ---- the rest of the list
 
@@ -104,7 +106,7 @@ module _ (G : Got) (k : ℕ) (s : List ℕ) (at : ℕ) (ts : List Token) (room :
   pub read_ended : length s ≤ at → G ≡ got ts
   read_ended h = sym e ∙ read_turn k s at ts room ∙ rw (le-ltb at (length s) h)
 
-  pub read_stop : at < length s → (refusal : Refusal) (place : ℕ) → token_at s at ≡ Unread refusal place → G ≡ refused refusal place
+  pub read_stop : at < length s → (refusal : Refusal) (place : ℕ) → token_at s at ≡ Err (refusal_at refusal place) → G ≡ refused refusal place
   unfolding on_read
   read_stop h refusal place f = sym e ∙ read_turn k s at ts room ∙ rw (lt-ltb at (length s) h, f)
 
@@ -123,11 +125,11 @@ pub record Surveyed (G : Got) (s : List ℕ) (k at c x : ℕ) (ts : List Token) 
   pub rest : read_from k s at ts ≡ G
 
 module _ {G : Got} {s : List ℕ} {k at c x : ℕ} {ts : List Token} (v : Surveyed G s k at c x ts) where
-  pub survey_end : length s ≤ at → Sound c x ≡ survey_of G
+  pub survey_end : length s ≤ at → Ok (survey c x) ≡ survey_of G
   unfolding survey_of
   survey_end h = rw (read_ended G k s at ts v.room v.rest h, v.count, v.texts)
 
-  pub survey_stop : at < length s → {refusal : Refusal} {place : ℕ} → Steps s at (token_at s at) (Stop refusal place) → Broken refusal place ≡ survey_of G
+  pub survey_stop : at < length s → {refusal : Refusal} {place : ℕ} → Steps s at (token_at s at) (Err (refusal_at refusal place)) → Err (refusal_at refusal place) ≡ survey_of G
   unfolding survey_of
   survey_stop h f = rw (read_stop G k s at ts v.room v.rest h _ _ f)
 

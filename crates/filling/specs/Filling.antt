@@ -1,18 +1,21 @@
 -- For the contracts of the inner functions of reading back: the survey, copying a text, and what a token puts into the two tables.
 -- Assumes nothing.
+use Rattle.std.specs.Prelude.{Result, Ok, Err}
+use Rattle.tokens.specs.Refusal.{refusal_at}
+use Rattle.tokens.specs.declared.Refused.{Refused}
+use Rattle.filling.specs.Filling.{step}
+use Rattle.filling.specs.Filling.{survey}
 use Rattle.std.specs.Prelude.{ℕ, ◌+◌, ◌<◌, ◌≤◌, ◌≡◌, Bool, true, false, List, [], ◌∷◌, length}
 use Rattle.std.proofs.lemmas.List.Edits.{sets}
 use Rattle.tokens.specs.declared.Read.{Read}
-use Rattle.tokens.specs.declared.Read.TheVariants.{Number, Identifier, String, Operator, Comment, Unread}
+use Rattle.tokens.specs.declared.Read.TheVariants.{Number, Identifier, String, Operator, Comment}
 use Rattle.tokens.specs.Text.{lowered}
 use Rattle.tokens.specs.Joined.{joined_at}
 use Rattle.tokens.specs.Token.{token_at}
 use Rattle.points.specs.Point.{next_of}
 use Rattle.lists.specs.declared.Place.{Place}
 use Rattle.lists.specs.declared.Step.{Step}
-use Rattle.lists.specs.declared.Step.TheVariants.{Go, Stop}
 use Rattle.lists.specs.declared.Survey.{Survey}
-use Rattle.lists.specs.declared.Survey.TheVariants.{Sound, Broken}
 use Rattle.items.specs.Tokens.{Token, number, identifier, string, operator}
 use Rattle.lists.specs.Reading.{Got, got, refused, read_from}
 use Rattle.tokens.specs.Joined.{data_of}
@@ -24,17 +27,17 @@ tokens_in s = read_from (length s) s 21 []
 
 -- ---- the survey
 
-abbrev pub step_of : Read → Step
-step_of (Number value next) = Go 1 0 next
-step_of (Identifier len next) = Go 1 len next
-step_of (String count next) = Go 1 count next
-step_of (Operator n next) = Go 1 0 next
-step_of (Comment next) = Go 0 0 next
-step_of (Unread refusal place) = Stop refusal place
+abbrev pub step_of : Result Read Refused → Result Step Refused
+step_of (Ok (Number value next)) = Ok (step 1 0 next)
+step_of (Ok (Identifier len next)) = Ok (step 1 len next)
+step_of (Ok (String count next)) = Ok (step 1 count next)
+step_of (Ok (Operator n next)) = Ok (step 1 0 next)
+step_of (Ok (Comment next)) = Ok (step 0 0 next)
+step_of (Err w) = Err w
 
-unfoldable pub survey_of : Got → Survey
-survey_of (got ts) = Sound (length ts) (length (texts_of ts))
-survey_of (refused refusal place) = Broken refusal place
+unfoldable pub survey_of : Got → Result Survey Refused
+survey_of (got ts) = Ok (survey (length ts) (length (texts_of ts)))
+survey_of (refused refusal place) = Err (refusal_at refusal place)
 
 -- ---- a text
 
@@ -51,25 +54,25 @@ text_token false d = string d
 -- ---- a token
 
 -- what a token that was read adds to the list
-unfoldable pub added : List ℕ → ℕ → Read → List Token
-added s at (Number value next) = number value ∷ []
-added s at (Identifier len next) = identifier (lowered (data_of (joined_at s at))) ∷ []
-added s at (String count next) = string (data_of (joined_at s at)) ∷ []
-added s at (Operator n next) = operator n ∷ []
-added s at (Comment next) = []
-added s at (Unread refusal place) = []
+unfoldable pub added : List ℕ → ℕ → Result Read Refused → List Token
+added s at (Ok (Number value next)) = number value ∷ []
+added s at (Ok (Identifier len next)) = identifier (lowered (data_of (joined_at s at))) ∷ []
+added s at (Ok (String count next)) = string (data_of (joined_at s at)) ∷ []
+added s at (Ok (Operator n next)) = operator n ∷ []
+added s at (Ok (Comment next)) = []
+added s at (Err w) = []
 
 -- a token that was read, and not a refusal
-abbrev pub Whole : Read → Type 0
-Whole (Number value next) = Unit
-Whole (Identifier len next) = Unit
-Whole (String count next) = Unit
-Whole (Operator n next) = Unit
-Whole (Comment next) = Unit
-Whole (Unread refusal place) = ⊥
+abbrev pub Whole : Result Read Refused → Type 0
+Whole (Ok (Number value next)) = Unit
+Whole (Ok (Identifier len next)) = Unit
+Whole (Ok (String count next)) = Unit
+Whole (Ok (Operator n next)) = Unit
+Whole (Ok (Comment next)) = Unit
+Whole (Err w) = ⊥
 
 -- what the token t that was read at `at` puts into the tables, at p and at o
-pub record Put (s : List ℕ) (at : ℕ) (t : Read) (p o : ℕ) (list list' text text' : List ℕ) (r : Place) : Type 0 where
+pub record Put (s : List ℕ) (at : ℕ) (t : Result Read Refused) (p o : ℕ) (list list' text text' : List ℕ) (r : Place) : Type 0 where
   pub to : r.at ≡ next_of at t
   pub list_place : r.p ≡ p + length (list_of o (added s at t))
   pub text_place : r.o ≡ o + length (texts_of (added s at t))
@@ -77,7 +80,7 @@ pub record Put (s : List ℕ) (at : ℕ) (t : Read) (p o : ℕ) (list list' text
   pub text_is : text' ≡ sets text o (texts_of (added s at t))
 
 -- the tables have room for it
-pub record Room (s : List ℕ) (at : ℕ) (t : Read) (p o : ℕ) (list text : List ℕ) : Type 0 where
+pub record Room (s : List ℕ) (at : ℕ) (t : Result Read Refused) (p o : ℕ) (list text : List ℕ) : Type 0 where
   pub inside : at < length s
   pub small : length s ≤ 16777215
   pub is_whole : Whole t

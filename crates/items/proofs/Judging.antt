@@ -1,5 +1,6 @@
 -- The tests of a token in a table, each by itself: the definition is their conjunction, so that their order is free. In order: a
 -- conjunction; an entry; numbers; texts; operators; the entry by its kind and at its place. Assumes nothing.
+use Rattle.std.specs.Prelude.{Option, Some, None}
 use mathlib.Core.Path.{◌≡◌, refl, sym, ap, ◌∙◌}
 use mathlib.Core.Bool.{Bool, true, false, ◌&&◌}
 use mathlib.Core.List.{List}
@@ -18,7 +19,7 @@ use Rattle.tokens.specs.declared.Rule.{Rule}
 use Rattle.tokens.specs.Text.{is_letter, every, is_name}
 use Rattle.table.specs.Words.{word_at}
 use Rattle.items.specs.declared.Item.{Item}
-use Rattle.items.specs.declared.Item.TheVariants.{Number, Operator, Bad}
+use Rattle.items.specs.declared.Item.TheVariants.{Number, Operator}
 use Rattle.items.specs.Tokens.{Token, identifier, string, operator, writable}
 use Rattle.items.specs.Listing.{writes, entry, in_table, entry_of, entry_at}
 use Rattle.items.specs.Judged.{number_in, text_token, entry_is, Judged}
@@ -27,18 +28,18 @@ all_true : (a b c d : Bool) → a ≡ true → b ≡ true → c ≡ true → a &
 all_true a b c d e f g = rw (e, f, g)
 
 module _ (x : List ℕ) (q : Bool) (t : Token) where
-  judged_no : q && writable t ≡ false → Judged x (entry q t) Bad
+  judged_no : q && writable t ≡ false → Judged x (entry q t) None
   unfolding entry entry_is
   judged_no e = record { is = rw e; good = tt }
 
-  pub judged_left : q ≡ false → Judged x (entry q t) Bad
+  pub judged_left : q ≡ false → Judged x (entry q t) None
   judged_left e = judged_no (no_left q (writable t) e)
 
   -- w is what was answered to the question whether t can be written
-  pub judged_right : (w : Bool) → w ≡ writable t → w ≡ false → Judged x (entry q t) Bad
+  pub judged_right : (w : Bool) → w ≡ writable t → w ≡ false → Judged x (entry q t) None
   judged_right w f e = judged_no (no_right q (writable t) (sym f ∙ e))
 
-  pub judged_yes : (r : Item) (w : Bool) → q ≡ true → w ≡ writable t → w ≡ true → Judged x (writes t) r → Judged x (entry q t) r
+  pub judged_yes : (r : Option Item) (w : Bool) → q ≡ true → w ≡ writable t → w ≡ true → Judged x (writes t) r → Judged x (entry q t) r
   unfolding entry
   judged_yes r w e f g j = record { is = j.is ∙ rw (e, ← f, g); good = j.good }
 
@@ -47,7 +48,7 @@ pub fraction_is : (a b size : ℕ) (t : Bool) → size ≡ nat_abs (to_z w32 a) 
 unfolding writable
 fraction_is a b size t e f = rw (f, e)
 
-pub number_here : (x : List ℕ) (a b : ℕ) → Judged x (writes (number_in a b)) (Number a b)
+pub number_here : (x : List ℕ) (a b : ℕ) → Judged x (writes (number_in a b)) (Some (Number a b))
 unfolding entry_is
 number_here x a b = record { is = refl; good = tt }
 
@@ -115,14 +116,14 @@ unfolding text_token
 text_unnamed named d e = rw e
 
 -- an operator
-pub operator_large : (x : List ℕ) (a b c : ℕ) → 8191 < a → Judged x (entry (eqb b 0 && eqb c 0) (operator a)) Bad
+pub operator_large : (x : List ℕ) (a b c : ℕ) → 8191 < a → Judged x (entry (eqb b 0 && eqb c 0) (operator a)) None
 unfolding writable
 operator_large x a b c h = judged_right x (eqb b 0 && eqb c 0) (operator a) (ltb a 8192) refl (le-ltb a 8192 (omega arith))
 
-pub operator_here : (x : List ℕ) (a b c : ℕ) → a ≤ 8191 → b ≡ 0 → c ≡ 0 → Judged x (entry (eqb b 0 && eqb c 0) (operator a)) (Operator a)
+pub operator_here : (x : List ℕ) (a b c : ℕ) → a ≤ 8191 → b ≡ 0 → c ≡ 0 → Judged x (entry (eqb b 0 && eqb c 0) (operator a)) (Some (Operator a))
 unfolding entry_is writable
 operator_here x a b c h e f =
-    judged_yes x (eqb b 0 && eqb c 0) (operator a) (Operator a) (ltb a 8192) (rw (e, f)) refl (lt-ltb a 8192 (omega arith)) (record { is = refl; good = omega arith })
+    judged_yes x (eqb b 0 && eqb c 0) (operator a) (Some (Operator a)) (ltb a 8192) (rw (e, f)) refl (lt-ltb a 8192 (omega arith)) (record { is = refl; good = omega arith })
 
 -- the entry by its kind
 module _ (x : List ℕ) (k a b c : ℕ) where
@@ -142,12 +143,12 @@ module _ (x : List ℕ) (k a b c : ℕ) where
   unfolding entry_of
   kind_4 e = rw e
 
-  pub kind_none : (k ≡ 1 → ⊥) → (k ≡ 2 → ⊥) → (k ≡ 3 → ⊥) → (k ≡ 4 → ⊥) → Judged x (entry_of x k a b c) Bad
+  pub kind_none : (k ≡ 1 → ⊥) → (k ≡ 2 → ⊥) → (k ≡ 3 → ⊥) → (k ≡ 4 → ⊥) → Judged x (entry_of x k a b c) None
   unfolding entry_of entry_is
   kind_none e f g h = record { is = rw (ne_eqb k 1 e, ne_eqb k 2 f, ne_eqb k 3 g, ne_eqb k 4 h); good = tt }
 
 -- the entry at a place
-pub entry_cut : (l x : List ℕ) (at : ℕ) → length l < at + 16 → Judged x (entry_at l x at) Bad
+pub entry_cut : (l x : List ℕ) (at : ℕ) → length l < at + 16 → Judged x (entry_at l x at) None
 unfolding entry_at entry_is
 entry_cut l x at h = record { is = rw (lt-leb (at + 16) (length l) h); good = tt }
 

@@ -1,13 +1,13 @@
 -- What measuring answered decides what writing answers and leaves. Assumes nothing.
+use Rattle.std.specs.Prelude.{Ok, Err}
+use Rattle.tokens.specs.Refusal.{refusal_at}
 use Rattle.std.proofs.Common.{◌≡◌, ℕ, ◌<◌, ◌≤◌, leb, List, length, sym, refl, ◌∙◌, arith, le-leb}
 use lib.Seq.{sets}
 use borrow.Author.Tests.{lt-leb}
 use Rattle.numbers.proofs.Cond.{no_left, no_right, split}
 use Rattle.table.proofs.Stores.{front}
-use Rattle.tokens.specs.declared.Outcome.{Outcome}
-use Rattle.tokens.specs.declared.Outcome.TheVariants.{Done, Refused}
+use Rattle.tokens.specs.Refusal.{Outcome}
 use Rattle.tokens.specs.declared.Refusal.TheVariants.{NotWritable, NoRoom}
-use Rattle.lists.specs.declared.Measured.TheVariants.{Sum, Wrong}
 use Rattle.items.specs.Tokens.{Token}
 use Rattle.lists.specs.Written.{written_of}
 use Rattle.items.specs.Listing.{Listed, all, wrong, listed}
@@ -22,22 +22,22 @@ capped_big : (m : ℕ) → 16777215 < capped m → 16777215 < m
 unfolding capped
 capped_big m = split 16777216 m (λ h. rw (lt-leb m 16777216 h) (λ g. omega arith)) (λ h. rw (le-leb m 16777216 h) (λ g. omega arith))
 
-clash : {A : Type 0} (i len : ℕ) → Sum len ≡ Wrong i → A
+clash : {A : Type 0} (i len : ℕ) → Ok len ≡ Err (refusal_at NotWritable i) → A
 clash i len e = absurd (let z : ◌≡◌ {A = ℕ} 0 1 = cc in omega arith)
 
-len_is : (ts : List Token) (len : ℕ) → Sum len ≡ Sum (capped (length (written_of ts))) → len ≡ capped (length (written_of ts))
+len_is : (ts : List Token) (len : ℕ) → Ok len ≡ Ok (capped (length (written_of ts))) → len ≡ capped (length (written_of ts))
 len_is ts len e = cc
 
 -- the pair that `write` promises, over what the list is
 abbrev Ends : Listed → List ℕ → Outcome → List ℕ → Type 0
 Ends J out r out' = (r ≡ write_answer J (length out)) × (out' ≡ write_leaves J out)
 
-ends_wrong : (J : Listed) (out : List ℕ) (i : ℕ) → Wrong i ≡ measured_of J → Ends J out (Refused NotWritable i) out
+ends_wrong : (J : Listed) (out : List ℕ) (i : ℕ) → Err (refusal_at NotWritable i) ≡ measured_of J → Ends J out (Err (refusal_at NotWritable i)) out
 unfolding measured_of write_answer write_leaves
 ends_wrong (all ts) out i e = clash i (capped (length (written_of ts))) (sym e)
 ends_wrong (wrong j) out i e = let f : i ≡ j = cc in (rw f, refl)
 
-ends_long : (J : Listed) (out : List ℕ) (len : ℕ) → Sum len ≡ measured_of J → 16777215 < len → Ends J out (Refused NoRoom 0) out
+ends_long : (J : Listed) (out : List ℕ) (len : ℕ) → Ok len ≡ measured_of J → 16777215 < len → Ends J out (Err (refusal_at NoRoom 0)) out
 unfolding measured_of write_answer write_leaves
 ends_long (all ts) out len e h =
     let f = capped_big (length (written_of ts)) (rw (len_is ts len e) at h) in
@@ -46,13 +46,13 @@ ends_long (all ts) out len e h =
 ends_long (wrong j) out len e h = clash j len e
 
 -- a length that was not cut short
-small : (J : Listed) (len : ℕ) → Sum len ≡ measured_of J → len ≤ 16777215 → (ts : List Token) → J ≡ all ts → len ≡ length (written_of ts)
+small : (J : Listed) (len : ℕ) → Ok len ≡ measured_of J → len ≤ 16777215 → (ts : List Token) → J ≡ all ts → len ≡ length (written_of ts)
 unfolding measured_of
 small J len e h ts f =
     let g = len_is ts len (rw f at e) in
     g ∙ capped_small (length (written_of ts)) (rw g at h)
 
-ends_full : (J : Listed) (out : List ℕ) (len : ℕ) → Sum len ≡ measured_of J → len ≤ 16777215 → length out < len → Ends J out (Refused NoRoom 0) out
+ends_full : (J : Listed) (out : List ℕ) (len : ℕ) → Ok len ≡ measured_of J → len ≤ 16777215 → length out < len → Ends J out (Err (refusal_at NoRoom 0)) out
 unfolding measured_of write_answer write_leaves
 ends_full (all ts) out len e h k =
     let f = small (all ts) len e h ts refl in
@@ -60,12 +60,12 @@ ends_full (all ts) out len e h k =
     (rw g, rw g)
 ends_full (wrong j) out len e h k = clash j len e
 
-pub fits_there : (J : Listed) (n len : ℕ) → Sum len ≡ measured_of J → len ≤ 16777215 → len ≤ n → Fits J n
+pub fits_there : (J : Listed) (n len : ℕ) → Ok len ≡ measured_of J → len ≤ 16777215 → len ≤ n → Fits J n
 unfolding measured_of
 fits_there (all ts) n len e h k = let f = small (all ts) len e h ts refl in omega arith
 fits_there (wrong j) n len e h k = clash j len e
 
-ends_done : (J : Listed) (out out' : List ℕ) (len : ℕ) → Sum len ≡ measured_of J → len ≤ 16777215 → len ≤ length out → out' ≡ sets out 0 (written_of (tokens_in J)) → Ends J out (Done len) out'
+ends_done : (J : Listed) (out out' : List ℕ) (len : ℕ) → Ok len ≡ measured_of J → len ≤ 16777215 → len ≤ length out → out' ≡ sets out 0 (written_of (tokens_in J)) → Ends J out (Ok len) out'
 unfolding measured_of write_answer write_leaves tokens_in over
 ends_done (all ts) out out' len e h k m =
     let f = small (all ts) len e h ts refl in
@@ -80,14 +80,14 @@ module _ (l x out : List ℕ) where
   promise : (out' : List ℕ) (r : Outcome) → Ends (listed l x) out r out' → Writes l x out out' r
   promise out' r e = record { answer = e.0; leaves = e.1 }
 
-  pub writes_wrong : (i : ℕ) → Wrong i ≡ measured_of (listed l x) → Writes l x out out (Refused NotWritable i)
-  writes_wrong i e = promise out (Refused NotWritable i) (ends_wrong (listed l x) out i e)
+  pub writes_wrong : (i : ℕ) → Err (refusal_at NotWritable i) ≡ measured_of (listed l x) → Writes l x out out (Err (refusal_at NotWritable i))
+  writes_wrong i e = promise out (Err (refusal_at NotWritable i)) (ends_wrong (listed l x) out i e)
 
-  pub writes_long : (len : ℕ) → Sum len ≡ measured_of (listed l x) → 16777215 < len → Writes l x out out (Refused NoRoom 0)
-  writes_long len e h = promise out (Refused NoRoom 0) (ends_long (listed l x) out len e h)
+  pub writes_long : (len : ℕ) → Ok len ≡ measured_of (listed l x) → 16777215 < len → Writes l x out out (Err (refusal_at NoRoom 0))
+  writes_long len e h = promise out (Err (refusal_at NoRoom 0)) (ends_long (listed l x) out len e h)
 
-  pub writes_full : (len : ℕ) → Sum len ≡ measured_of (listed l x) → len ≤ 16777215 → length out < len → Writes l x out out (Refused NoRoom 0)
-  writes_full len e h k = promise out (Refused NoRoom 0) (ends_full (listed l x) out len e h k)
+  pub writes_full : (len : ℕ) → Ok len ≡ measured_of (listed l x) → len ≤ 16777215 → length out < len → Writes l x out out (Err (refusal_at NoRoom 0))
+  writes_full len e h k = promise out (Err (refusal_at NoRoom 0)) (ends_full (listed l x) out len e h k)
 
-  pub writes_done : (out' : List ℕ) (len : ℕ) → Sum len ≡ measured_of (listed l x) → len ≤ 16777215 → len ≤ length out → out' ≡ sets out 0 (written_of (tokens_in (listed l x))) → Writes l x out out' (Done len)
-  writes_done out' len e h k m = promise out' (Done len) (ends_done (listed l x) out out' len e h k m)
+  pub writes_done : (out' : List ℕ) (len : ℕ) → Ok len ≡ measured_of (listed l x) → len ≤ 16777215 → len ≤ length out → out' ≡ sets out 0 (written_of (tokens_in (listed l x))) → Writes l x out out' (Ok len)
+  writes_done out' len e h k m = promise out' (Ok len) (ends_done (listed l x) out out' len e h k m)

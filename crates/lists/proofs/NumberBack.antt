@@ -1,11 +1,11 @@
 -- A number is read back: a short number, an integer, a rational of two halves. Assumes nothing.
+use Rattle.std.specs.Prelude.{Ok}
 use Rattle.std.proofs.Common.{◌≡◌, ℕ, ◌+◌, ◌*◌, ◌/◌, ◌%◌, ◌<◌, ◌≤◌, Bool, true, false, T, eqb, ltb, List, [], ◌∷◌, ◌++◌, length, get_or, ℤ, pos, ◌+ℤ◌, ◌-ℤ◌, sym, ap, ◌∙◌, subst, arith, length-append, take_at, get_or-append-add, drop_at, ltb-true, lt-ltb, eqb-true, le-leb}
 use lib.Seq.{get_or-append_seam}
 use lib.IntN.{+ℤ-neg_ℤ_cancel}
 use lib.Signed.{non_neg, pos-nat_abs}
 use borrow.Author.Tests.{lt-leb}
 use Rattle.numbers.specs.declared.Number.{Number}
-use Rattle.numbers.specs.declared.Answer.TheVariants.{Is}
 use Rattle.numbers.specs.Fraction.{ratio_of, is_number}
 use Rattle.tokens.specs.declared.Read.TheVariants as R
 use Rattle.tokens.specs.Format.{integer_type, rational_type}
@@ -30,7 +30,7 @@ raised_back z h =
     let n = pos-nat_abs (z +ℤ pos 4000) (subst (λ (b : Bool). T b) (sym t.0) tt) in
     (ltb-true (raised z) 32768 t.1, ap (λ (y : ℤ). y -ℤ pos 4000) n ∙ +ℤ-neg_ℤ_cancel z (pos 4000))
 
-short_read : (p r : List ℕ) (v : ℕ) → v < 32768 → token_at (p ++ (v / 256) ∷ (v % 256) ∷ r) (length p) ≡ R.Number (record { num = pos v -ℤ pos 4000; den = 1 }) (length p + 2)
+short_read : (p r : List ℕ) (v : ℕ) → v < 32768 → token_at (p ++ (v / 256) ∷ (v % 256) ∷ r) (length p) ≡ Ok (R.Number (record { num = pos v -ℤ pos 4000; den = 1 }) (length p + 2))
 unfolding token_at token_of
 short_read p r v h =
     let b : ℕ = v / 256 in
@@ -62,14 +62,14 @@ rational_in_lem k y z h i =
 halves_length : (k : ℕ) (y z : ℤ) → length (integer_bytes k y ++ integer_bytes k z) ≡ k + k
 halves_length k y z = length-append (integer_bytes k y) (integer_bytes k z) ∙ rw (bytes_length k (complement_of k y), bytes_length k (complement_of k z))
 
-judged_integer : (at next k : ℕ) (a : Number) → is_number a ≡ true → a.den ≡ 1 → Held a.num k → judged integer_type at (integer_bytes k a.num) next ≡ R.Number a next
+judged_integer : (at next k : ℕ) (a : Number) → is_number a ≡ true → a.den ≡ 1 → Held a.num k → judged integer_type at (integer_bytes k a.num) next ≡ Ok (R.Number a next)
 unfolding judged number_read
 judged_integer at next k a w one h =
-    let e : ratio_of a.num (pos 1) ≡ Is a = ap (λ (d : ℕ). ratio_of a.num (pos d)) (sym one) ∙ ratio_number a w in
+    let e : ratio_of a.num (pos 1) ≡ Ok a = ap (λ (d : ℕ). ratio_of a.num (pos d)) (sym one) ∙ ratio_number a w in
     rw (bytes_length k (complement_of k a.num), le-leb 1 k h.some, le-leb k 4 h.most, integer_in_lem k a.num h, e)
 
 judged_rational : (at next k : ℕ) (a : Number) → is_number a ≡ true → Held a.num k → Held (pos a.den) k
-    → judged rational_type at (integer_bytes k a.num ++ integer_bytes k (pos a.den)) next ≡ R.Number a next
+    → judged rational_type at (integer_bytes k a.num ++ integer_bytes k (pos a.den)) next ≡ Ok (R.Number a next)
 unfolding judged number_read
 judged_rational at next k a w h i =
     let n = halves_length k a.num (pos a.den) in
@@ -98,20 +98,20 @@ module _ (a : Number) (w : is_number a ≡ true) where
   both_held = larger_holds a.num (pos a.den) (bytes_in a.num) (bytes_in (pos a.den)) num_held den_held
 
   module _ (p r : List ℕ) (last : continued (get_or r 0 0) ≡ false) where
-    whole_back : a.den ≡ 1 → token_at (p ++ (whole_bytes a.num ++ r)) (length p) ≡ R.Number a (length p + length (whole_bytes a.num))
+    whole_back : a.den ≡ 1 → token_at (p ++ (whole_bytes a.num ++ r)) (length p) ≡ Ok (R.Number a (length p + length (whole_bytes a.num)))
     whole_back one =
         let z = a.num in
         let k = bytes_in z in
         by_test (is_short z)
         (λ h.
         let b = raised_back z h in
-        let e : R.Number (record { num = a.num; den = 1 }) (length p + 2) ≡ R.Number a (length p + 2) = ap (λ (d : ℕ). R.Number (record { num = a.num; den = d }) (length p + 2)) (sym one) in
+        let e : Ok (R.Number (record { num = a.num; den = 1 }) (length p + 2)) ≡ Ok (R.Number a (length p + 2)) = ap (λ (d : ℕ). Ok (R.Number (record { num = a.num; den = d }) (length p + 2))) (sym one) in
         rw (whole_short z h) (short_read p r (raised z) b.0 ∙ rw b.1 e))
         (λ h.
         let s = sequence_back p r integer_type (integer_bytes k z) (omega arith) (omega (arith, bytes_length k (complement_of k z), num_held.most)) last in
         rw (whole_long z h) (s.1 ∙ judged_integer (length p) _ k a w one num_held))
 
-    rational_back : token_at (p ++ (rational_bytes a.num a.den ++ r)) (length p) ≡ R.Number a (length p + length (rational_bytes a.num a.den))
+    rational_back : token_at (p ++ (rational_bytes a.num a.den ++ r)) (length p) ≡ Ok (R.Number a (length p + length (rational_bytes a.num a.den)))
     unfolding rational_bytes
     rational_back =
         let k = larger (bytes_in a.num) (bytes_in (pos a.den)) in
@@ -120,7 +120,7 @@ module _ (a : Number) (w : is_number a ≡ true) where
         let s = sequence_back p r rational_type d (omega arith) (omega (arith, halves_length k a.num (pos a.den), h.0.most)) last in
         s.1 ∙ judged_rational (length p) _ k a w h.0 h.1
 
-    pub number_back : token_at (p ++ (token_bytes (number a) ++ r)) (length p) ≡ R.Number a (length p + length (token_bytes (number a)))
+    pub number_back : token_at (p ++ (token_bytes (number a) ++ r)) (length p) ≡ Ok (R.Number a (length p + length (token_bytes (number a))))
     unfolding token_bytes
     number_back = by_test (eqb a.den 1) (λ e. rw e (whole_back (eqb-true a.den 1 e))) (λ e. rw e rational_back)
 

@@ -1,4 +1,5 @@
 -- An operator is read back, in its short and its long form. Assumes nothing.
+use Rattle.std.specs.Prelude.{Ok}
 use Rattle.std.proofs.Common.{◌≡◌, ℕ, ◌+◌, ◌*◌, ◌/◌, ◌%◌, ◌<◌, ◌≤◌, false, List, [], ◌∷◌, ◌++◌, length, get_or, arith, length-append, get_or-append-add, le-ltb, lt-ltb}
 use lib.Seq.{get_or-append_seam}
 use borrow.Author.Tests.{lt-leb}
@@ -16,14 +17,14 @@ pub operator_long : (n : ℕ) → 32 ≤ n → operator_bytes n ≡ (160 + n / 2
 unfolding operator_bytes
 operator_long n h = rw (le-ltb n 32 h)
 
-short_back : (p r : List ℕ) (n : ℕ) → n < 32 → token_at (p ++ (128 + n) ∷ r) (length p) ≡ Operator n (length p + 1)
+short_back : (p r : List ℕ) (n : ℕ) → n < 32 → token_at (p ++ (128 + n) ∷ r) (length p) ≡ Ok (Operator n (length p + 1))
 unfolding token_at token_of
 short_back p r n h =
     let b : ℕ = 128 + n in
     let e : (128 + n) % 32 ≡ n = omega arith in
     rw (lt-ltb (length p) (length (p ++ b ∷ r)) (simp length-append (omega arith)), get_or-append_seam p b r 0, le-ltb b 128 (omega arith), lt-ltb b 160 (omega arith), e)
 
-long_back : (p r : List ℕ) (n : ℕ) → n < 8192 → token_at (p ++ (160 + n / 256) ∷ (n % 256) ∷ r) (length p) ≡ Operator n (length p + 2)
+long_back : (p r : List ℕ) (n : ℕ) → n < 8192 → token_at (p ++ (160 + n / 256) ∷ (n % 256) ∷ r) (length p) ≡ Ok (Operator n (length p + 2))
 unfolding token_at token_of
 long_back p r n h =
     let b : ℕ = 160 + n / 256 in
@@ -40,7 +41,7 @@ long_back p r n h =
       e,
     )
 
-pub operator_back : (p r : List ℕ) (n : ℕ) → n < 8192 → token_at (p ++ (operator_bytes n ++ r)) (length p) ≡ Operator n (length p + length (operator_bytes n))
+pub operator_back : (p r : List ℕ) (n : ℕ) → n < 8192 → token_at (p ++ (operator_bytes n ++ r)) (length p) ≡ Ok (Operator n (length p + length (operator_bytes n)))
 operator_back p r n h = split n 32 (λ g. rw (operator_short n g) (short_back p r n g)) (λ g. rw (operator_long n g) (long_back p r n h))
 
 pub operator_plain : (n : ℕ) (r : List ℕ) → n < 8192 → continued (get_or (operator_bytes n ++ r) 0 0) ≡ false

@@ -1,12 +1,14 @@
 -- The two passes over a list, a token at a turn. In order: one more token; counting up to a limit; a turn of
 -- either pass; the first pass; the written form only grows; the second pass. Assumes nothing.
+use Rattle.std.specs.Prelude.{Ok, Err, Option}
+use Rattle.tokens.specs.Refusal.{refusal_at}
+use Rattle.tokens.specs.declared.Refusal.TheVariants.{NotWritable}
 use Rattle.std.proofs.Common.{◌≡◌, ℕ, zero, suc, ◌+◌, ◌-◌, ◌/◌, ◌<◌, ◌≤◌, cond, ltb, leb, List, [], ◌∷◌, ◌++◌, length, sym, refl, ap, ◌∙◌, subst, append_assoc, append-nil, le_refl, arith, length-append, le-ltb, lt-ltb, le-leb}
 use lib.Seq.{sets}
 use borrow.Author.Tests.{lt-leb}
 use Rattle.tokens.specs.Format.{header}
 use Rattle.numbers.proofs.Cond.{either, split}
 use Rattle.items.specs.declared.Item.{Item}
-use Rattle.lists.specs.declared.Measured.TheVariants.{Sum, Wrong}
 use Rattle.items.specs.Tokens.{Token}
 use Rattle.lists.specs.Written.{token_bytes, tokens_bytes, written_of}
 use Rattle.items.specs.Listing.{Entry, writes, bad, entry_at, Listed, all, wrong, on_entry, listed_from, listed}
@@ -98,16 +100,16 @@ unfolding capped
 measuring_start l x = record { k = length l; ts = []; before = before_start l x; sum = rw written_none refl; low = omega arith }
 
 module _ (l x : List ℕ) (at total : ℕ) (m : Measuring l x at total) where
-  pub measuring_end : length l ≤ at → Sum total ≡ measured_of (listed l x)
+  pub measuring_end : length l ≤ at → Ok total ≡ measured_of (listed l x)
   unfolding measured_of
   measuring_end h = rw (ended l x (listed l x) at m.k m.ts m.before h, m.sum)
 
   -- the item i is judged there, and n is its size
-  module _ (h : at < length l) (i : Item) (j : Judged x (entry_at l x at) i) (n : ℕ) (f : (y : List ℕ) → GoodItem y i → n ≡ length (entry_bytes (entry_is y i))) where
+  module _ (h : at < length l) (i : Option Item) (j : Judged x (entry_at l x at) i) (n : ℕ) (f : (y : List ℕ) → GoodItem y i → n ≡ length (entry_bytes (entry_is y i))) where
     size_there : n ≡ length (entry_bytes (entry_at l x at))
     size_there = f x j.good ∙ ap (λ (d : Entry). length (entry_bytes d)) j.is
 
-    pub measuring_wrong : n ≡ 0 → Wrong (at / 16) ≡ measured_of (listed l x)
+    pub measuring_wrong : n ≡ 0 → Err (refusal_at NotWritable (at / 16)) ≡ measured_of (listed l x)
     unfolding measured_of
     measuring_wrong z = rw (stopped l x (listed l x) at m.k m.ts m.before h (sym size_there ∙ z))
 
@@ -168,7 +170,7 @@ module _ (l x out₀ out : List ℕ) (at o : ℕ) (m : Putting l x out₀ out at
       (put_then _ header (tokens_bytes m.ts) refl e₀ out₀ out 0 21 o (record { next = refl; stored = f }) m.put).stored
 
   -- the list fits, and the item i is judged there
-  module _ (h : at < length l) (n : ℕ) (f : Fits (listed l x) n) (i : Item) (j : Judged x (entry_at l x at) i) where
+  module _ (h : at < length l) (n : ℕ) (f : Fits (listed l x) n) (i : Option Item) (j : Judged x (entry_at l x at) i) where
     next : Before l x (listed l x) (at + 16) (m.k - 1) (m.ts ++ entry_tokens (entry_at l x at))
     next =
         went l x (listed l x) at m.k m.ts m.before h

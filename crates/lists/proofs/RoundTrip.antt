@@ -1,7 +1,7 @@
 -- Over both promises: what `write` accepts is read back as the same tokens. Assumes nothing.
+use Rattle.std.specs.Prelude.{Ok}
 use Rattle.std.proofs.Common.{◌≡◌, ℕ, ◌*◌, ◌<◌, ◌≤◌, true, List, [], ◌∷◌, length, take, sym, ap, ◌∙◌, arith, length-append}
-use Rattle.tokens.specs.declared.Outcome.{Outcome}
-use Rattle.tokens.specs.declared.Outcome.TheVariants.{Done}
+use Rattle.tokens.specs.Refusal.{Outcome}
 use Rattle.tokens.specs.Format.{longest, string_type, identifier_type}
 use Rattle.items.specs.Tokens.{Token, number, identifier, string, operator, all_writable}
 use Rattle.lists.specs.Written.{token_bytes, tokens_bytes, written_of}
@@ -27,7 +27,7 @@ unfolding texts_of tokens_bytes
 texts_short [] = omega arith
 texts_short (t ∷ ts) = omega (arith, length-append (text_of t) (texts_of ts), length-append (token_bytes t) (tokens_bytes ts), text_short t, texts_short ts)
 
-module _ {l x out out' : List ℕ} {n : ℕ} (w : Writes l x out out' (Done n)) where
+module _ {l x out out' : List ℕ} {n : ℕ} (w : Writes l x out out' (Ok n)) where
   -- of the tokens that were written
   tokens_are : (ts : List Token) → listed l x ≡ all ts → n ≡ length (written_of ts) → n ≤ length out → n ≤ longest
       → (all_writable ts ≡ true) × (read_list (take n out') ≡ got ts) × (length (texts_of ts) < 2147483648)
@@ -39,10 +39,10 @@ module _ {l x out out' : List ℕ} {n : ℕ} (w : Writes l x out out' (Done n)) 
   pub tokens_back : (ts : List Token) × (listed l x ≡ all ts) × (all_writable ts ≡ true) × (read_list (take n out') ≡ got ts)
   tokens_back = let q = done_tokens w in let a = tokens_are q.0 q.1 q.2 q.3 q.4 in (q.0, q.1, a.0, a.1)
 
-  pub tables_back : {list list' text text' : List ℕ} {m : ℕ} → ReadsBack (take n out') list list' text text' (Done m) → listed (take (16 * m) list') text' ≡ listed l x
+  pub tables_back : {list list' text text' : List ℕ} {m : ℕ} → ReadsBack (take n out') list list' text text' (Ok m) → listed (take (16 * m) list') text' ≡ listed l x
   tables_back b = let q = done_tokens w in let a = tokens_are q.0 q.1 q.2 q.3 q.4 in read_same a.1 a.0 a.2 b ∙ sym q.1
 
-  pub answer_back : {ts : List Token} {list list' text text' : List ℕ} {r : Outcome} → listed l x ≡ all ts → holds ts (length list) (length text) ≡ true → ReadsBack (take n out') list list' text text' r → r ≡ Done (length ts)
+  pub answer_back : {ts : List Token} {list list' text text' : List ℕ} {r : Outcome} → listed l x ≡ all ts → holds ts (length list) (length text) ≡ true → ReadsBack (take n out') list list' text text' r → r ≡ Ok (length ts)
   answer_back {ts} e h b =
       let q = tokens_back in
       let f : all q.0 ≡ all ts = sym q.1 ∙ e in

@@ -1,9 +1,10 @@
 -- A sequence token is read back: its data, and the token that they are judged to be. One proof for every type and both lengths of the
 -- length. Assumes nothing.
+use Rattle.std.specs.Prelude.{Some}
+use Rattle.tokens.specs.Joined.{piece_from}
 use Rattle.std.proofs.Common.{◌≡◌, ℕ, suc, ◌+◌, ◌%◌, ◌<◌, ◌≤◌, false, List, [], ◌∷◌, ◌++◌, length, get_or, take, sym, refl, ◌∙◌, append_assoc, add-zero, arith, length-append, take_at, get_or-append-add, le-ltb, lt-ltb, ne_eqb, le-leb}
 use lib.Seq.{slice, get_or-append_seam, take-append-add, drop-append-add}
 use borrow.Author.Tests.{lt-leb}
-use Rattle.tokens.specs.declared.Piece.TheVariants.{Data}
 use Rattle.tokens.specs.Bytes.{value_after}
 use Rattle.tokens.specs.Joined.{whole, length_bytes, piece_at, continued, joined_at}
 use Rattle.tokens.specs.Token.{token_at, token_of, sequence, judged}
@@ -46,7 +47,7 @@ module _ (p r : List ℕ) (b : ℕ) (l d : List ℕ) (seq : 192 ≤ b) (long : l
       let e : length p + 1 + length l ≡ length p + suc (length l) = omega arith in
       rw (e, regroup, after p (b ∷ (l ++ (d ++ r))) 1 (suc (length l)), take_at l (d ++ r) (length l) refl) (sym value)
 
-  piece : piece_at s (length p) ≡ Data (length q) (length d)
+  piece : piece_at s (length p) ≡ Some (piece_from (length q) (length d))
   piece =
       let i = piece_is s (length p) (length l) (length d) (rw first long) count in
       rw (← q_length) at (i ∙ within_data s (length p + 1 + length l) (length d) (omega (arith, s_length)))

@@ -1,22 +1,24 @@
 -- For the contracts of the writer's inner functions. In order: a length; bytes that are put; the two passes. Assumes nothing.
+use Rattle.std.specs.Prelude.{Result, Ok, Err, Option, Some, None}
+use Rattle.tokens.specs.Refusal.{refusal_at}
+use Rattle.tokens.specs.declared.Refused.{Refused}
+use Rattle.tokens.specs.declared.Refusal.TheVariants.{NotWritable}
 use Rattle.std.specs.Prelude.{◌≡◌, ℕ, ◌+◌, ◌<◌, ◌≤◌, cond, List, [], ◌∷◌, length, ℤ, nat_le}
 use Rattle.std.proofs.lemmas.List.Edits.{sets}
 use Rattle.tokens.specs.Format.{longest, integer_type}
 use Rattle.items.specs.declared.Item.{Item}
-use Rattle.items.specs.declared.Item.TheVariants.{Number, Identifier, String, Operator, Bad}
-use Rattle.lists.specs.declared.Measured.{Measured}
-use Rattle.lists.specs.declared.Measured.TheVariants.{Sum, Wrong}
+use Rattle.items.specs.declared.Item.TheVariants.{Number, Identifier, String, Operator}
 use Rattle.items.specs.Tokens.{Token}
 use Rattle.lists.specs.Written.{bytes_of, bytes_in, integer_bytes, sequence_bytes, token_bytes, written_of}
 use Rattle.items.specs.Listing.{Entry, writes, bad, Listed, all, wrong}
 
 -- a length that a word can say, where the item has one
-abbrev pub Small : Item → Type 0
-Small (Number a b) = Unit
-Small (Identifier s n) = n < 2147483648
-Small (String s n) = n < 2147483648
-Small (Operator n) = Unit
-Small Bad = Unit
+abbrev pub Small : Option Item → Type 0
+Small (Some (Number a b)) = Unit
+Small (Some (Identifier s n)) = n < 2147483648
+Small (Some (String s n)) = n < 2147483648
+Small (Some (Operator n)) = Unit
+Small None = Unit
 
 -- ---- bytes that are put
 
@@ -52,9 +54,9 @@ entry_bytes bad = []
 unfoldable pub capped : ℕ → ℕ
 capped n = cond (nat_le n (longest + 1)) n (longest + 1)
 
-unfoldable pub measured_of : Listed → Measured
-measured_of (all ts) = Sum (capped (length (written_of ts)))
-measured_of (wrong i) = Wrong i
+unfoldable pub measured_of : Listed → Result ℕ Refused
+measured_of (all ts) = Ok (capped (length (written_of ts)))
+measured_of (wrong i) = Err (refusal_at NotWritable i)
 
 -- every token can be written, and their written form fits n bytes
 abbrev pub Fits : Listed → ℕ → Type 0

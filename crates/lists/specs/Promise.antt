@@ -1,12 +1,13 @@
 -- What `write` and `read_back` promise: the answer, and every byte of every lent table, refused input too (01, Outcomes and numbers: "In
 -- writing, 15 (first such token) before 16. Reading back judges 11 last"; "A refusal leaves every lent table as found"; "Writing and
 -- reading back leave the rest of each table untouched"). In order: writing; the tables that a list fills; reading back. Assumes nothing.
+use Rattle.std.specs.Prelude.{Ok, Err}
+use Rattle.tokens.specs.Refusal.{refusal_at}
 use Rattle.std.specs.Prelude.{◌≡◌, ℕ, ◌+◌, Bool, cond, ◌&&◌, List, [], ◌∷◌, ◌++◌, length, drop, nat_le}
 use Rattle.std.specs.Int.{w32}
 use Rattle.std.proofs.Common.{of_z}
 use Rattle.table.specs.Words.{word_bytes}
-use Rattle.tokens.specs.declared.Outcome.{Outcome}
-use Rattle.tokens.specs.declared.Outcome.TheVariants.{Done, Refused}
+use Rattle.tokens.specs.Refusal.{Outcome}
 use Rattle.tokens.specs.declared.Refusal.TheVariants.{TableTooShort, NotWritable, NoRoom}
 use Rattle.tokens.specs.Format.{longest}
 use Rattle.items.specs.Tokens.{Token, number, identifier, string, operator}
@@ -25,8 +26,8 @@ room_for b n = nat_le (length b) n && nat_le (length b) longest
 -- ---- writing into a buffer of n bytes
 
 unfoldable pub write_answer : Listed → ℕ → Outcome
-write_answer (all ts) n = cond (room_for (written_of ts) n) (Done (length (written_of ts))) (Refused NoRoom 0)
-write_answer (wrong i) n = Refused NotWritable i
+write_answer (all ts) n = cond (room_for (written_of ts) n) (Ok (length (written_of ts))) (Err (refusal_at NoRoom 0))
+write_answer (wrong i) n = Err (refusal_at NotWritable i)
 
 unfoldable pub write_leaves : Listed → List ℕ → List ℕ
 write_leaves (all ts) out = cond (room_for (written_of ts) (length out)) (over (written_of ts) out) out
@@ -70,8 +71,8 @@ abbrev pub holds : List Token → ℕ → ℕ → Bool
 holds ts n m = nat_le (length (list_of 0 ts)) n && nat_le (length (texts_of ts)) m
 
 unfoldable pub read_answer : Got → ℕ → ℕ → Outcome
-read_answer (got ts) n m = cond (holds ts n m) (Done (length ts)) (Refused TableTooShort 0)
-read_answer (refused refusal place) n m = Refused refusal place
+read_answer (got ts) n m = cond (holds ts n m) (Ok (length ts)) (Err (refusal_at TableTooShort 0))
+read_answer (refused refusal place) n m = Err (refusal_at refusal place)
 
 unfoldable pub list_leaves : Got → List ℕ → ℕ → List ℕ
 list_leaves (got ts) list m = cond (holds ts (length list) m) (over (list_of 0 ts) list) list

@@ -1,4 +1,7 @@
 -- The literal at a place, arm by arm of the reader, and the numbers that must fit a word. Assumes nothing.
+use Rattle.std.specs.Prelude.{Result, Ok, Err}
+use Rattle.tokens.specs.Refusal.{refusal_at}
+use Rattle.tokens.specs.declared.Refused.{Refused}
 use Prim.Native.Nat.{ℕ, ◌+◌, ◌-◌, ◌<◌, ◌≤◌}
 use native.Mathlib.Omega.{arith}
 use mathlib.Core.Path.{◌≡◌, refl, sym, subst, ◌∙◌}
@@ -17,8 +20,6 @@ use Rattle.tokens.proofs.Theorems.{token_tells_all}
 use Rattle.machine.specs.contracts.Role.{the_type}
 use Rattle.machine.specs.declared.Role.{Role}
 use Rattle.machine.specs.declared.Role.TheVariants as role
-use Rattle.machine.specs.declared.Went.{Went}
-use Rattle.machine.specs.declared.Went.TheVariants.{Past}
 use Rattle.machine.specs.declared.Literal.TheVariants.{Figure, Name, Text, Plain, WithBody}
 use Rattle.machine.specs.Limits.{most_open}
 use Rattle.machine.specs.Skeleton.{role_of, solid, body_at}
@@ -36,11 +37,11 @@ nothing_is b d e f = record { literal = e; next = f }
 -- ---- an operator that holds a body
 
 -- the body lies inside the bytes, its `{` and `}` with it
-pub body_fits : (b : List ℕ) (next end : ℕ) (w : Went) → w ≡ body_at most_open b next → w ≡ Past end → (solid b next + 4 ≤ end) × (end ≤ length b)
+pub body_fits : (b : List ℕ) (next end : ℕ) (w : Result ℕ Refused) → w ≡ body_at most_open b next → w ≡ Ok end → (solid b next + 4 ≤ end) × (end ≤ length b)
 body_fits b next end w e f = (body_long most_open b next end (sym e ∙ f), (rw (sym e ∙ f) at (body_later most_open b next)).1)
 
-module _ (b : List ℕ) (n next : ℕ) (w : Went) (d : Due) (e : w ≡ body_at most_open b next) where
-  pub holding_found : (end s start len : ℕ) → w ≡ Past end → s ≡ solid b next → start ≡ s + 2 → len ≡ end - 2 - (s + 2) → Is (found b (WithBody n start len) end) d → Is (holding_at b n next) d
+module _ (b : List ℕ) (n next : ℕ) (w : Result ℕ Refused) (d : Due) (e : w ≡ body_at most_open b next) where
+  pub holding_found : (end s start len : ℕ) → w ≡ Ok end → s ≡ solid b next → start ≡ s + 2 → len ≡ end - 2 - (s + 2) → Is (found b (WithBody n start len) end) d → Is (holding_at b n next) d
   unfolding holding_at holding_by
   holding_found end s start len f g h i k = rw (← e, f, ← g, ← i, ← h) k
 
@@ -72,33 +73,33 @@ module _ (b : List ℕ) (n next : ℕ) (r : Role) (d : Due) (e : r ≡ role_of n
 
 -- ---- a token
 
-module _ (b : List ℕ) (at : ℕ) (t : Read) (e : t ≡ token_at b at) where
-  pub name_inside : (len next : ℕ) → t ≡ read.Identifier len next → at + len < length b
+module _ (b : List ℕ) (at : ℕ) (t : Result Read Refused) (e : t ≡ token_at b at) where
+  pub name_inside : (len next : ℕ) → t ≡ Ok (read.Identifier len next) → at + len < length b
   name_inside len next f =
-      let h : Tells b at (read.Identifier len next) = rw (sym e ∙ f) at (token_tells_all b at) in
+      let h : Tells b at (Ok (read.Identifier len next)) = rw (sym e ∙ f) at (token_tells_all b at) in
       omega (arith, h.longer, h.inside)
 
   module _ (d : Due) where
-    pub is_number : (value : num.Number) (next : ℕ) → t ≡ read.Number value next → Is (found b (Figure value) next) d → Is (found_at b at) d
+    pub is_number : (value : num.Number) (next : ℕ) → t ≡ Ok (read.Number value next) → Is (found b (Figure value) next) d → Is (found_at b at) d
     unfolding found_at found_by
     is_number value next f k = rw (← e, f) k
 
-    pub is_name_lem : (len next start l : ℕ) → t ≡ read.Identifier len next → start ≡ at → l ≡ len → Is (found b (Name start l) next) d → Is (found_at b at) d
+    pub is_name_lem : (len next start l : ℕ) → t ≡ Ok (read.Identifier len next) → start ≡ at → l ≡ len → Is (found b (Name start l) next) d → Is (found_at b at) d
     unfolding found_at found_by
     is_name_lem len next start l f g h k = rw (← e, f, ← g, ← h) k
 
-    pub is_text : (count next start : ℕ) → t ≡ read.String count next → start ≡ at → Is (found b (Text start) next) d → Is (found_at b at) d
+    pub is_text : (count next start : ℕ) → t ≡ Ok (read.String count next) → start ≡ at → Is (found b (Text start) next) d → Is (found_at b at) d
     unfolding found_at found_by
     is_text count next start f g k = rw (← e, f, ← g) k
 
     -- no operator is a sequence
-    pub is_sequence : (n next : ℕ) → (at < length b) × (192 ≤ get_or b at 0) → t ≡ read.Operator n next → Is (found_at b at) d
+    pub is_sequence : (n next : ℕ) → (at < length b) × (192 ≤ get_or b at 0) → t ≡ Ok (read.Operator n next) → Is (found_at b at) d
     is_sequence n next g f = absurd (rw (sym e ∙ f) at (no_operator b at form.Sequence refl g))
 
-    pub is_comment : (next : ℕ) → t ≡ read.Comment next → Is (nothing_at b) d → Is (found_at b at) d
+    pub is_comment : (next : ℕ) → t ≡ Ok (read.Comment next) → Is (nothing_at b) d → Is (found_at b at) d
     unfolding found_at found_by
     is_comment next f k = rw (← e, f) k
 
-    pub is_unread : (r : Refusal) (p : ℕ) → t ≡ read.Unread r p → Is (nothing_at b) d → Is (found_at b at) d
+    pub is_unread : (r : Refusal) (p : ℕ) → t ≡ Err (refusal_at r p) → Is (nothing_at b) d → Is (found_at b at) d
     unfolding found_at found_by
     is_unread r p f k = rw (← e, f) k

@@ -1,4 +1,6 @@
 -- What skipping asks of a literal, told by the token's form. Assumes nothing.
+use Rattle.std.specs.Prelude.{Result, Ok, Err}
+use Rattle.tokens.specs.declared.Refused.{Refused}
 use Prim.Native.Nat.{ℕ, ◌<◌, ◌≤◌}
 use mathlib.Core.Path.{◌≡◌, refl, sym, ◌∙◌}
 use mathlib.Core.Bool.{false}
@@ -13,8 +15,6 @@ use Rattle.tokens.specs.declared.Read.{Read}
 use Rattle.tokens.specs.declared.Read.TheVariants as read
 use Rattle.tokens.specs.declared.Form.{Form}
 use Rattle.tokens.specs.declared.Form.TheVariants as form
-use Rattle.tokens.specs.declared.Pass.{Pass}
-use Rattle.tokens.specs.declared.Pass.TheVariants as pass
 use Rattle.tokens.specs.Token.{token_at}
 use Rattle.tokens.specs.Passing.{Shows, pass_of}
 use Rattle.machine.specs.declared.Role.{Role}
@@ -48,21 +48,21 @@ pub is_as : {f g : Found} {d : Due} → f ≡ g → Is g d → Is f d
 is_as e i = rw e i
 
 -- a token that is neither a comment nor an operator
-over : (b : List ℕ) (at next past : ℕ) (t : Read) → NoComment t → NoOperator t → pass_of t ≡ pass.Over next → past ≡ solid b next → Passes (found_by b at t) (record { next = past; unmarks = false })
+over : (b : List ℕ) (at next past : ℕ) (t : Result Read Refused) → NoComment t → NoOperator t → pass_of t ≡ Ok next → past ≡ solid b next → Passes (found_by b at t) (record { next = past; unmarks = false })
 unfolding found_by pass_of is_unmark0
-over b at next past (read.Number v k) c o e p = let z : k ≡ next = cc in record { next = p ∙ (rw z); unmarks = refl }
-over b at next past (read.Identifier l k) c o e p = let z : k ≡ next = cc in record { next = p ∙ (rw z); unmarks = refl }
-over b at next past (read.String l k) c o e p = let z : k ≡ next = cc in record { next = p ∙ (rw z); unmarks = refl }
-over b at next past (read.Operator n k) c o e p = absurd o
-over b at next past (read.Comment k) c o e p = absurd c
-over b at next past (read.Unread r k) c o e p = never (cc)
+over b at next past (Ok (read.Number v k)) c o e p = let z : k ≡ next = cc in record { next = p ∙ (rw z); unmarks = refl }
+over b at next past (Ok (read.Identifier l k)) c o e p = let z : k ≡ next = cc in record { next = p ∙ (rw z); unmarks = refl }
+over b at next past (Ok (read.String l k)) c o e p = let z : k ≡ next = cc in record { next = p ∙ (rw z); unmarks = refl }
+over b at next past (Ok (read.Operator n k)) c o e p = absurd o
+over b at next past (Ok (read.Comment k)) c o e p = absurd c
+over b at next past (Err w) c o e p = never (cc)
 
 module _ (b : List ℕ) (at : ℕ) where
-  module _ (g : (at < length b) × (192 ≤ get_or b at 0)) (t : Pass) (e : t ≡ pass_of (token_at b at)) where
+  module _ (g : (at < length b) × (192 ≤ get_or b at 0)) (t : Result ℕ Refused) (e : t ≡ pass_of (token_at b at)) where
     operands : NoOperator (token_at b at)
     operands = no_operator b at form.Sequence refl g
 
-    pub sequence_over : (next past : ℕ) → NoComment (token_at b at) → t ≡ pass.Over next → past ≡ solid b next → Passes (found_at b at) (record { next = past; unmarks = false })
+    pub sequence_over : (next past : ℕ) → NoComment (token_at b at) → t ≡ Ok next → past ≡ solid b next → Passes (found_at b at) (record { next = past; unmarks = false })
     unfolding found_at
     sequence_over next past c f p = over b at next past (token_at b at) c operands (sym e ∙ f) p
 

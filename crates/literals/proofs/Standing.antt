@@ -1,5 +1,6 @@
 -- A literal that stands at a place, known to be one: its token, and the body that it holds. In order: places past comments; the literal.
 -- Assumes nothing.
+use Rattle.std.specs.Prelude.{Ok}
 use Prim.Native.Nat.{ℕ, zero, suc}
 use mathlib.Core.Path.{◌≡◌, ◌∙◌}
 use mathlib.Core.Bool.{false≢true}
@@ -65,7 +66,7 @@ module _ {b : List ℕ} {at : ℕ} where
   stands_solid f (a_holder n inner next e r h) = rw e tt
 
   -- the body of an operator that holds one
-  pub stands_ends : (f : Found) (n next : ℕ) → IsLiteral b at f → token_at b at ≡ Operator n next → role_of n ≡ Holds → BodyEnds b next
+  pub stands_ends : (f : Found) (n next : ℕ) → IsLiteral b at f → token_at b at ≡ Ok (Operator n next) → role_of n ≡ Holds → BodyEnds b next
   stands_ends f n next (a_number value x e) t r = never (cc)
   stands_ends f n next (an_identifier len x e) t r = never (cc)
   stands_ends f n next (a_string count x e) t r = never (cc)
@@ -73,7 +74,7 @@ module _ {b : List ℕ} {at : ℕ} where
   stands_ends f n next (a_holder m inner x e p h) t r = let z : inner ≡ next = cc in (x, rw z at h)
 
   -- an operator that stands there is a literal by itself, or holds a body
-  stands_role : (f : Found) (n next : ℕ) → IsLiteral b at f → token_at b at ≡ Operator n next → (role_of n ≡ Plain) ⊎ (role_of n ≡ Holds)
+  stands_role : (f : Found) (n next : ℕ) → IsLiteral b at f → token_at b at ≡ Ok (Operator n next) → (role_of n ≡ Plain) ⊎ (role_of n ≡ Holds)
   stands_role f n next (a_number value x e) t = never (cc)
   stands_role f n next (an_identifier len x e) t = never (cc)
   stands_role f n next (a_string count x e) t = never (cc)
@@ -81,7 +82,7 @@ module _ {b : List ℕ} {at : ℕ} where
   stands_role f n next (a_holder m inner x e p h) t = let z : m ≡ n = cc in inr (rw z at p)
 
   -- what skipping asks of it
-  pub operator_passes : (n next : ℕ) (a : Ahead) → LiteralThere b at → token_at b at ≡ Operator n next → PastOperator b n next a.next → a.unmarks ≡ eqb n 192 → Passes (found_at b at) a
+  pub operator_passes : (n next : ℕ) (a : Ahead) → LiteralThere b at → token_at b at ≡ Ok (Operator n next) → PastOperator b n next a.next → a.unmarks ≡ eqb n 192 → Passes (found_at b at) a
   unfolding found_at found_by operator_by holding_at holding_by is_unmark0
   operator_passes n next a h e p u = ⊎_elim plain holds (stands_role _ n next h e)
     where

@@ -1,8 +1,8 @@
 -- What the reader of literals answers, against the definition. Assumes nothing.
+use Rattle.std.specs.Prelude.{Ok}
 use Rattle.std.specs.Prelude.{◌≡◌, ℕ, ◌≤◌, List, length}
 use Rattle.machine.specs.declared.Literal.TheVariants.{Plain}
 use Rattle.machine.specs.declared.Role.TheVariants.{Holds}
-use Rattle.machine.specs.declared.Went.TheVariants.{Past}
 use Rattle.machine.specs.Limits.{most_open}
 use Rattle.machine.specs.Skeleton.{role_of, solid, body_at}
 use Rattle.machine.specs.Literal.{Found, found_at}
@@ -28,7 +28,7 @@ pub record Passes (f : Found) (r : Ahead) : Type 0 where
 
 -- p is past the operator n, which ends at `next`, past the body that it holds, and past comments
 pub record PastOperator (b : List ℕ) (n next p : ℕ) : Type 0 where
-  pub holds : role_of n ≡ Holds → (end : ℕ) × (body_at most_open b next ≡ Past end) × (p ≡ solid b end)
+  pub holds : role_of n ≡ Holds → (end : ℕ) × (body_at most_open b next ≡ Ok end) × (p ≡ solid b end)
   pub holds_none : (role_of n ≡ Holds → ⊥) → p ≡ solid b next
 
 -- the operator r stands at `at`, unless its number is 0

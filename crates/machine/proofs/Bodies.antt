@@ -1,5 +1,8 @@
 -- A body that is read, by its parts: comments, `{`, literals each passed, `}`; and back. In order: literals; their ends; bodies.
 -- Assumes nothing.
+use Rattle.std.specs.Prelude.{Result, Ok, Err}
+use Rattle.tokens.specs.Refusal.{refusal_at}
+use Rattle.tokens.specs.declared.Refused.{Refused}
 use Prim.Native.Nat.{ℕ, zero, suc, ◌+◌, ◌<◌, ◌≤◌}
 use native.Mathlib.Omega.{arith}
 use mathlib.Core.Path.{◌≡◌, refl, sym, ap, ◌∙◌}
@@ -9,17 +12,15 @@ use lib.ListN.{length}
 use borrow.Author.Tests.{eqb-true, eq-eqb}
 use Rattle.numbers.specs.declared.Number as num
 use Rattle.tokens.specs.declared.Read.{Read}
-use Rattle.tokens.specs.declared.Read.TheVariants.{Number, Identifier, String, Operator, Comment, Unread}
+use Rattle.tokens.specs.declared.Read.TheVariants.{Number, Identifier, String, Operator, Comment}
 use Rattle.tokens.specs.declared.Refusal.{Refusal}
 use Rattle.tokens.specs.declared.Refusal.TheVariants.{TooDeep}
 use Rattle.tokens.specs.Token.{token_at}
 use Rattle.numbers.proofs.Cond.{either}
 use Rattle.machine.specs.declared.Role.{Role}
 use Rattle.machine.specs.declared.Role.TheVariants.{Plain, Holds, Closes, Barred}
-use Rattle.machine.specs.declared.Went.{Went}
-use Rattle.machine.specs.declared.Went.TheVariants.{Past, Stop}
 use Rattle.machine.specs.declared.Passed.{Passed}
-use Rattle.machine.specs.declared.Passed.TheVariants.{On, Closed, Bad}
+use Rattle.machine.specs.declared.Passed.TheVariants.{On, Closed}
 use Rattle.machine.specs.Skeleton.{opening, closing, role_of, one_of, holders, barred, solid, follow, and_then, held, passing, literal_by, due_by, due, literals_from, body_at, literal_at}
 use Rattle.machine.proofs.Inside.{token_inside}
 use Rattle.machine.proofs.Inside as inside
@@ -27,12 +28,12 @@ use Rattle.machine.proofs.Comments.{never, operator_beyond, Comments, solid_is, 
 
 -- how a literal, or a comment, is passed: by its token alone, or as far as the body that it holds; k more bodies may be open
 pub data Passing (s : List ℕ) (k at next : ℕ) : Type 0 where
-  figure : (value : num.Number) → token_at s at ≡ Number value next → Passing s k at next
-  name : (len : ℕ) → token_at s at ≡ Identifier len next → Passing s k at next
-  text : (count : ℕ) → token_at s at ≡ String count next → Passing s k at next
-  comment : token_at s at ≡ Comment next → Passing s k at next
-  plain : (n : ℕ) → token_at s at ≡ Operator n next → role_of n ≡ Plain → Passing s k at next
-  holding : (n inner : ℕ) → token_at s at ≡ Operator n inner → role_of n ≡ Holds → body_at k s inner ≡ Past next → Passing s k at next
+  figure : (value : num.Number) → token_at s at ≡ Ok (Number value next) → Passing s k at next
+  name : (len : ℕ) → token_at s at ≡ Ok (Identifier len next) → Passing s k at next
+  text : (count : ℕ) → token_at s at ≡ Ok (String count next) → Passing s k at next
+  comment : token_at s at ≡ Ok (Comment next) → Passing s k at next
+  plain : (n : ℕ) → token_at s at ≡ Ok (Operator n next) → role_of n ≡ Plain → Passing s k at next
+  holding : (n inner : ℕ) → token_at s at ≡ Ok (Operator n inner) → role_of n ≡ Holds → body_at k s inner ≡ Ok next → Passing s k at next
 
 -- such ones from the place on, up to `end`
 pub data Passes (s : List ℕ) (k : ℕ) : ℕ → ℕ → Type 0 where
@@ -44,29 +45,29 @@ pub record Parts (s : List ℕ) (k at next : ℕ) : Type 0 where
   pub begins : ℕ
   pub ends : ℕ
   pub comments : Comments s at begins
-  pub opens : token_at s begins ≡ Operator opening (begins + 2)
+  pub opens : token_at s begins ≡ Ok (Operator opening (begins + 2))
   pub literals : Passes s k (begins + 2) ends
-  pub closes : token_at s ends ≡ Operator closing next
+  pub closes : token_at s ends ≡ Ok (Operator closing next)
 
-same_on : {x y : ℕ} → On x ≡ On y → x ≡ y
+same_on : {x y : ℕ} → Ok (On x) ≡ Ok (On y) → x ≡ y
 same_on e = cc
 
-same_closed : {x y : ℕ} → Closed x ≡ Closed y → x ≡ y
+same_closed : {x y : ℕ} → Ok (Closed x) ≡ Ok (Closed y) → x ≡ y
 same_closed e = cc
 
-closed_on : {x y : ℕ} → Closed x ≡ On y → ◌≡◌ {A = ℕ} 0 1
+closed_on : {x y : ℕ} → Ok (Closed x) ≡ Ok (On y) → ◌≡◌ {A = ℕ} 0 1
 closed_on e = cc
 
-bad_on : {w : Refusal} {x y : ℕ} → Bad w x ≡ On y → ◌≡◌ {A = ℕ} 0 1
+bad_on : {w : Refusal} {x y : ℕ} → Err (refusal_at w x) ≡ Ok (On y) → ◌≡◌ {A = ℕ} 0 1
 bad_on e = cc
 
-bad_closed : {w : Refusal} {x y : ℕ} → Bad w x ≡ Closed y → ◌≡◌ {A = ℕ} 0 1
+bad_closed : {w : Refusal} {x y : ℕ} → Err (refusal_at w x) ≡ Ok (Closed y) → ◌≡◌ {A = ℕ} 0 1
 bad_closed e = cc
 
-same_past : {x y : ℕ} → Past x ≡ Past y → x ≡ y
+same_past : {x y : ℕ} → Ok x ≡ Ok y → x ≡ y
 same_past e = cc
 
-stop_past : {w : Refusal} {x y : ℕ} → Stop w x ≡ Past y → ◌≡◌ {A = ℕ} 0 1
+stop_past : {w : Refusal} {x y : ℕ} → Err (refusal_at w x) ≡ Ok y → ◌≡◌ {A = ℕ} 0 1
 stop_past e = cc
 
 closes_is : (n : ℕ) → role_of n ≡ Closes → n ≡ closing
@@ -79,55 +80,55 @@ closes_is n =
     P r = r ≡ Closes → n ≡ closing
 
 module _ (s : List ℕ) (k : ℕ) where
-  passing_of : (at next : ℕ) → literal_at k s at ≡ On next → Passing s k at next
+  passing_of : (at next : ℕ) → literal_at k s at ≡ Ok (On next) → Passing s k at next
   unfolding literal_by passing held
   passing_of at next = by_token (token_at s at) refl
     where
-      by_went : (n x : ℕ) → token_at s at ≡ Operator n x → role_of n ≡ Holds → (w : Went) → body_at k s x ≡ w → held w ≡ On next → Passing s k at next
-      by_went n x e r (Past y) q h = holding n x e r (q ∙ ap Past (same_on h))
-      by_went n x e r (Stop refusal place) q h = never (bad_on h)
+      by_went : (n x : ℕ) → token_at s at ≡ Ok (Operator n x) → role_of n ≡ Holds → (w : Result ℕ Refused) → body_at k s x ≡ w → held w ≡ Ok (On next) → Passing s k at next
+      by_went n x e r (Ok y) q h = holding n x e r (q ∙ ap Ok (same_on h))
+      by_went n x e r (Err w) q h = never (bad_on h)
 
-      by_role : (n x : ℕ) → token_at s at ≡ Operator n x → (r : Role) → role_of n ≡ r → passing r at (body_at k s) x ≡ On next → Passing s k at next
+      by_role : (n x : ℕ) → token_at s at ≡ Ok (Operator n x) → (r : Role) → role_of n ≡ r → passing r at (body_at k s) x ≡ Ok (On next) → Passing s k at next
       by_role n x e Plain r h = plain n (e ∙ ap (Operator n) (same_on h)) r
       by_role n x e Holds r h = by_went n x e r (body_at k s x) refl h
       by_role n x e Closes r h = never (closed_on h)
       by_role n x e Barred r h = never (bad_on h)
 
-      by_token : (t : Read) → token_at s at ≡ t → literal_by at (body_at k s) t ≡ On next → Passing s k at next
-      by_token (Number value x) e h = figure value (e ∙ ap (Number value) (same_on h))
-      by_token (Identifier len x) e h = name len (e ∙ ap (Identifier len) (same_on h))
-      by_token (String count x) e h = text count (e ∙ ap (String count) (same_on h))
-      by_token (Operator n x) e h = by_role n x e (role_of n) refl h
-      by_token (Comment x) e h = comment (e ∙ ap Comment (same_on h))
-      by_token (Unread refusal place) e h = never (bad_on h)
+      by_token : (t : Result Read Refused) → token_at s at ≡ t → literal_by at (body_at k s) t ≡ Ok (On next) → Passing s k at next
+      by_token (Ok (Number value x)) e h = figure value (e ∙ ap (Number value) (same_on h))
+      by_token (Ok (Identifier len x)) e h = name len (e ∙ ap (Identifier len) (same_on h))
+      by_token (Ok (String count x)) e h = text count (e ∙ ap (String count) (same_on h))
+      by_token (Ok (Operator n x)) e h = by_role n x e (role_of n) refl h
+      by_token (Ok (Comment x)) e h = comment (e ∙ ap Ok (Comment (same_on h)))
+      by_token (Err w) e h = never (bad_on h)
 
-  closed_of : (at next : ℕ) → literal_at k s at ≡ Closed next → token_at s at ≡ Operator closing next
+  closed_of : (at next : ℕ) → literal_at k s at ≡ Ok (Closed next) → token_at s at ≡ Ok (Operator closing next)
   unfolding literal_by passing held
   closed_of at next = by_token (token_at s at) refl
     where
-      by_went : (w : Went) → held w ≡ Closed next → token_at s at ≡ Operator closing next
-      by_went (Past y) h = never (closed_on (sym h))
-      by_went (Stop refusal place) h = never (bad_closed h)
+      by_went : (w : Result ℕ Refused) → held w ≡ Ok (Closed next) → token_at s at ≡ Ok (Operator closing next)
+      by_went (Ok y) h = never (closed_on (sym h))
+      by_went (Err w) h = never (bad_closed h)
 
-      by_role : (n x : ℕ) → token_at s at ≡ Operator n x → (r : Role) → role_of n ≡ r → passing r at (body_at k s) x ≡ Closed next → token_at s at ≡ Operator closing next
+      by_role : (n x : ℕ) → token_at s at ≡ Ok (Operator n x) → (r : Role) → role_of n ≡ r → passing r at (body_at k s) x ≡ Ok (Closed next) → token_at s at ≡ Ok (Operator closing next)
       by_role n x e Plain r h = never (closed_on (sym h))
       by_role n x e Holds r h = by_went (body_at k s x) h
       by_role n x e Closes r h = rw (closes_is n r) at (e ∙ ap (Operator n) (same_closed h))
       by_role n x e Barred r h = never (bad_closed h)
 
-      by_token : (t : Read) → token_at s at ≡ t → literal_by at (body_at k s) t ≡ Closed next → token_at s at ≡ Operator closing next
-      by_token (Number value x) e h = never (closed_on (sym h))
-      by_token (Identifier len x) e h = never (closed_on (sym h))
-      by_token (String count x) e h = never (closed_on (sym h))
-      by_token (Operator n x) e h = by_role n x e (role_of n) refl h
-      by_token (Comment x) e h = never (closed_on (sym h))
-      by_token (Unread refusal place) e h = never (bad_closed h)
+      by_token : (t : Result Read Refused) → token_at s at ≡ t → literal_by at (body_at k s) t ≡ Ok (Closed next) → token_at s at ≡ Ok (Operator closing next)
+      by_token (Ok (Number value x)) e h = never (closed_on (sym h))
+      by_token (Ok (Identifier len x)) e h = never (closed_on (sym h))
+      by_token (Ok (String count x)) e h = never (closed_on (sym h))
+      by_token (Ok (Operator n x)) e h = by_role n x e (role_of n) refl h
+      by_token (Ok (Comment x)) e h = never (closed_on (sym h))
+      by_token (Err w) e h = never (bad_closed h)
 
-  closed_is : (at next : ℕ) → token_at s at ≡ Operator closing next → literal_at k s at ≡ Closed next
+  closed_is : (at next : ℕ) → token_at s at ≡ Ok (Operator closing next) → literal_at k s at ≡ Ok (Closed next)
   unfolding literal_by passing role_of
   closed_is at next e = rw e
 
-  literal_of : (at next : ℕ) → Passing s k at next → literal_at k s at ≡ On next
+  literal_of : (at next : ℕ) → Passing s k at next → literal_at k s at ≡ Ok (On next)
   unfolding literal_by passing held
   literal_of at next (figure value e) = rw e
   literal_of at next (name len e) = rw e
@@ -137,25 +138,25 @@ module _ (s : List ℕ) (k : ℕ) where
   literal_of at next (holding n inner e r h) = rw (e, r, h)
 
   -- and literals up to a `}`
-  pub literals_parts : (j at next : ℕ) → literals_from j (literal_at k s) at ≡ Past next → (end : ℕ) × Passes s k at end × (token_at s end ≡ Operator closing next)
+  pub literals_parts : (j at next : ℕ) → literals_from j (literal_at k s) at ≡ Ok next → (end : ℕ) × Passes s k at end × (token_at s end ≡ Ok (Operator closing next))
   unfolding literals_from and_then
   literals_parts zero at next h = never (stop_past h)
   literals_parts (suc j) at next h = by_passed (λ x. literals_parts j x next) (literal_at k s at) refl h
     where
-      by_passed : ((x : ℕ) → literals_from j (literal_at k s) x ≡ Past next → (end : ℕ) × Passes s k x end × (token_at s end ≡ Operator closing next))
-          → (p : Passed) → literal_at k s at ≡ p → and_then p (literals_from j (literal_at k s)) ≡ Past next → (end : ℕ) × Passes s k at end × (token_at s end ≡ Operator closing next)
-      by_passed ih (On x) e g = let r = ih x g in (r.0, more (passing_of at x e) r.1, r.2)
-      by_passed ih (Closed x) e g = (at, stop, closed_of at x e ∙ ap (Operator closing) (same_past g))
-      by_passed ih (Bad refusal place) e g = never (stop_past g)
+      by_passed : ((x : ℕ) → literals_from j (literal_at k s) x ≡ Ok next → (end : ℕ) × Passes s k x end × (token_at s end ≡ Ok (Operator closing next)))
+          → (p : Result Passed Refused) → literal_at k s at ≡ p → and_then p (literals_from j (literal_at k s)) ≡ Ok next → (end : ℕ) × Passes s k at end × (token_at s end ≡ Ok (Operator closing next))
+      by_passed ih (Ok (On x)) e g = let r = ih x g in (r.0, more (passing_of at x e) r.1, r.2)
+      by_passed ih (Ok (Closed x)) e g = (at, stop, closed_of at x e ∙ ap (Operator closing) (same_past g))
+      by_passed ih (Err w) e g = never (stop_past g)
 
 -- ---- ends
 
 -- a body ends past its place
-pub body_later : (k : ℕ) (s : List ℕ) (at next : ℕ) → body_at k s at ≡ Past next → at < next
+pub body_later : (k : ℕ) (s : List ℕ) (at next : ℕ) → body_at k s at ≡ Ok next → at < next
 body_later k s at next h = (rw h at (inside.body_later k s at)).0
 
 -- and inside the input
-pub body_ends : (k : ℕ) (s : List ℕ) (at next : ℕ) → body_at k s at ≡ Past next → next ≤ length s
+pub body_ends : (k : ℕ) (s : List ℕ) (at next : ℕ) → body_at k s at ≡ Ok next → next ≤ length s
 body_ends k s at next h = (rw h at (inside.body_later k s at)).1
 
 -- a token from `at` to `next` in n bytes begins among them
@@ -175,7 +176,7 @@ module _ (s : List ℕ) (k : ℕ) where
   passes_later at end stop = omega arith
   passes_later at end (more {next = next} p q) = omega (arith, (passing_later at next p).0, passes_later next end q)
 
-  pub literals_of : (j at end next : ℕ) → length s ≤ at + j → Passes s k at end → token_at s end ≡ Operator closing next → literals_from j (literal_at k s) at ≡ Past next
+  pub literals_of : (j at end next : ℕ) → length s ≤ at + j → Passes s k at end → token_at s end ≡ Ok (Operator closing next) → literals_from j (literal_at k s) at ≡ Ok next
   unfolding literals_from and_then
   literals_of zero at end next l stop e = let g = operator_beyond s at closing next e in absurd (omega (arith, g.0, g.1))
   literals_of zero at end next l (more {next = x} p q) e = absurd (omega (arith, (passing_later at x p).1))
@@ -184,50 +185,50 @@ module _ (s : List ℕ) (k : ℕ) where
 
 -- ---- bodies
 
-pub due_of : (n : ℕ) (s : List ℕ) (at next : ℕ) → due n s at ≡ Past next → token_at s (solid s at) ≡ Operator n next
+pub due_of : (n : ℕ) (s : List ℕ) (at next : ℕ) → due n s at ≡ Ok next → token_at s (solid s at) ≡ Ok (Operator n next)
 unfolding due due_by
 due_of n s at next = by_token (token_at s (solid s at)) refl
   where
-    by_token : (t : Read) → token_at s (solid s at) ≡ t → due_by n (solid s at) t ≡ Past next → token_at s (solid s at) ≡ Operator n next
-    by_token (Number value x) e h = never (stop_past h)
-    by_token (Identifier len x) e h = never (stop_past h)
-    by_token (String count x) e h = never (stop_past h)
-    by_token (Operator m x) e h = either (λ w. w ≡ Past next → token_at s (solid s at) ≡ Operator n next) (eqb m n) (Past x) _
+    by_token : (t : Result Read Refused) → token_at s (solid s at) ≡ t → due_by n (solid s at) t ≡ Ok next → token_at s (solid s at) ≡ Ok (Operator n next)
+    by_token (Ok (Number value x)) e h = never (stop_past h)
+    by_token (Ok (Identifier len x)) e h = never (stop_past h)
+    by_token (Ok (String count x)) e h = never (stop_past h)
+    by_token (Ok (Operator m x)) e h = either (λ w. w ≡ Ok next → token_at s (solid s at) ≡ Ok (Operator n next)) (eqb m n) (Ok x) _
         (λ i g. rw (eqb-true m n i) at (e ∙ ap (Operator m) (same_past g))) (λ _ g. never (stop_past g)) h
-    by_token (Comment x) e h = never (stop_past h)
-    by_token (Unread refusal place) e h = never (stop_past h)
+    by_token (Ok (Comment x)) e h = never (stop_past h)
+    by_token (Err w) e h = never (stop_past h)
 
-pub due_is : (n : ℕ) (s : List ℕ) (at q next : ℕ) → Comments s at q → token_at s q ≡ Operator n next → due n s at ≡ Past next
+pub due_is : (n : ℕ) (s : List ℕ) (at q next : ℕ) → Comments s at q → token_at s q ≡ Ok (Operator n next) → due n s at ≡ Ok next
 unfolding due due_by
 due_is n s at q next c e = rw (solid_is s at q c, e, eq-eqb n n refl)
 
-pub parts_of : (k : ℕ) (s : List ℕ) (at next : ℕ) → body_at (suc k) s at ≡ Past next → Parts s k at next
+pub parts_of : (k : ℕ) (s : List ℕ) (at next : ℕ) → body_at (suc k) s at ≡ Ok next → Parts s k at next
 unfolding body_at follow
 parts_of k s at next h = by_due (due opening s at) refl h
   where
-    by_due : (w : Went) → due opening s at ≡ w → follow w (literals_from (length s) (literal_at k s)) ≡ Past next → Parts s k at next
-    by_due (Past x) e g =
-        let o : token_at s (solid s at) ≡ Operator opening x = due_of opening s at x e in
+    by_due : (w : Result ℕ Refused) → due opening s at ≡ w → follow w (literals_from (length s) (literal_at k s)) ≡ Ok next → Parts s k at next
+    by_due (Ok x) e g =
+        let o : token_at s (solid s at) ≡ Ok (Operator opening x) = due_of opening s at x e in
         let z : x ≡ solid s at + 2 = two_bytes s (solid s at) opening x (lit≤ tt) o in
         let r = literals_parts s k (length s) (solid s at + 2) next (rw z at g) in
         record { begins = solid s at; ends = r.0; comments = comments_are s at; opens = rw z at o; literals = r.1; closes = r.2 }
-    by_due (Stop refusal place) e g = never (stop_past g)
+    by_due (Err w) e g = never (stop_past g)
 
-pub no_body : {X : Type 0} (s : List ℕ) (at next : ℕ) → body_at zero s at ≡ Past next → X
+pub no_body : {X : Type 0} (s : List ℕ) (at next : ℕ) → body_at zero s at ≡ Ok next → X
 unfolding body_at follow
 no_body {X = X} s at next h = by_due (due opening s at) h
   where
-    by_due : (w : Went) → follow w (λ x. Stop TooDeep (solid s at)) ≡ Past next → X
-    by_due (Past x) e = never (stop_past e)
-    by_due (Stop refusal place) e = never (stop_past e)
+    by_due : (w : Result ℕ Refused) → follow w (λ x. Err (refusal_at TooDeep (solid s at))) ≡ Ok next → X
+    by_due (Ok x) e = never (stop_past e)
+    by_due (Err w) e = never (stop_past e)
 
 -- `{` and `}` are two bytes each
-pub body_long : (k : ℕ) (s : List ℕ) (at next : ℕ) → body_at k s at ≡ Past next → solid s at + 4 ≤ next
+pub body_long : (k : ℕ) (s : List ℕ) (at next : ℕ) → body_at k s at ≡ Ok next → solid s at + 4 ≤ next
 body_long zero s at next h = no_body s at next h
 body_long (suc k) s at next h =
     let p = parts_of k s at next h in
     omega (arith, solid_is s at p.begins p.comments, passes_later s k (p.begins + 2) p.ends p.literals, two_bytes s p.ends closing next (lit≤ tt) p.closes)
 
-pub body_of : (k : ℕ) (s : List ℕ) (at next : ℕ) → Parts s k at next → body_at (suc k) s at ≡ Past next
+pub body_of : (k : ℕ) (s : List ℕ) (at next : ℕ) → Parts s k at next → body_at (suc k) s at ≡ Ok next
 unfolding body_at follow
 body_of k s at next p = rw (due_is opening s at p.begins (p.begins + 2) p.comments p.opens) (literals_of s k (length s) (p.begins + 2) p.ends next (omega arith) p.literals p.closes)

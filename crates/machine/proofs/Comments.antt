@@ -1,4 +1,7 @@
 -- Tokens at the ends of what is read: after comments (`solid` is where they end), in two bytes. Assumes nothing.
+use Rattle.std.specs.Prelude.{Result, Ok, Err}
+use Rattle.tokens.specs.Refusal.{refusal_at}
+use Rattle.tokens.specs.declared.Refused.{Refused}
 use Prim.Native.Nat.{ℕ, zero, suc, ◌+◌, ◌*◌, ◌%◌, ◌<◌, ◌≤◌}
 use native.Mathlib.Nat.{mod-lt}
 use native.Mathlib.Omega.{arith}
@@ -7,7 +10,7 @@ use mathlib.Core.List.{List}
 use lib.Dec.{ltb, lit<}
 use lib.ListN.{length, get_or}
 use Rattle.tokens.specs.declared.Read.{Read}
-use Rattle.tokens.specs.declared.Read.TheVariants.{Number, Identifier, String, Operator, Comment, Unread}
+use Rattle.tokens.specs.declared.Read.TheVariants.{Number, Identifier, String, Operator, Comment}
 use Rattle.tokens.specs.declared.Refusal.TheVariants.{CutOff}
 use Rattle.tokens.specs.Joined.{Joined, whole, cut_at, joined_at}
 use Rattle.tokens.specs.Token.{sequence, pair, token_of, token_at}
@@ -23,7 +26,7 @@ pub never : {X : Type 0} → ◌≡◌ {A = ℕ} 0 1 → X
 never e = absurd (omega arith)
 
 -- an operator that is read ends past its place, inside the input
-pub operator_beyond : (s : List ℕ) (at n next : ℕ) → token_at s at ≡ Operator n next → (at < next) × (next ≤ length s)
+pub operator_beyond : (s : List ℕ) (at n next : ℕ) → token_at s at ≡ Ok (Operator n next) → (at < next) × (next ≤ length s)
 operator_beyond s at n next e = rw e at (token_inside s at)
 
 -- ---- comments
@@ -31,7 +34,7 @@ operator_beyond s at n next e = rw e at (token_inside s at)
 -- from the place on, comments up to q, where there is none
 pub data Comments (s : List ℕ) : ℕ → ℕ → Type 0 where
   none_at : {at : ℕ} → NoComment (token_at s at) → Comments s at at
-  one_at : {at next q : ℕ} → token_at s at ≡ Comment next → Comments s next q → Comments s at q
+  one_at : {at next q : ℕ} → token_at s at ≡ Ok (Comment next) → Comments s next q → Comments s at q
 
 pub comments_later : (s : List ℕ) (at q : ℕ) → Comments s at q → at ≤ q
 comments_later s at q (none_at h) = omega arith
@@ -40,22 +43,22 @@ comments_later s at q (one_at {next = next} h c) =
     omega (arith, comments_later s next q c, g.0)
 
 -- a comment, or none
-by_comment : {X : Type 0} (t : Read) → ((next : ℕ) → t ≡ Comment next → X) → (NoComment t → X) → X
-by_comment (Number value next) f g = g tt
-by_comment (Identifier len next) f g = g tt
-by_comment (String count next) f g = g tt
-by_comment (Operator n next) f g = g tt
-by_comment (Comment next) f g = f next refl
-by_comment (Unread refusal place) f g = g tt
+by_comment : {X : Type 0} (t : Result Read Refused) → ((next : ℕ) → t ≡ Ok (Comment next) → X) → (NoComment t → X) → X
+by_comment (Ok (Number value next)) f g = g tt
+by_comment (Ok (Identifier len next)) f g = g tt
+by_comment (Ok (String count next)) f g = g tt
+by_comment (Ok (Operator n next)) f g = g tt
+by_comment (Ok (Comment next)) f g = f next refl
+by_comment (Err w) f g = g tt
 
-pub stays : (t : Read) (at : ℕ) (rest : ℕ → ℕ) → NoComment t → past_comment t at rest ≡ at
+pub stays : (t : Result Read Refused) (at : ℕ) (rest : ℕ → ℕ) → NoComment t → past_comment t at rest ≡ at
 unfolding past_comment
-stays (Number value next) at rest h = refl
-stays (Identifier len next) at rest h = refl
-stays (String count next) at rest h = refl
-stays (Operator n next) at rest h = refl
-stays (Comment next) at rest h = absurd h
-stays (Unread refusal place) at rest h = refl
+stays (Ok (Number value next)) at rest h = refl
+stays (Ok (Identifier len next)) at rest h = refl
+stays (Ok (String count next)) at rest h = refl
+stays (Ok (Operator n next)) at rest h = refl
+stays (Ok (Comment next)) at rest h = absurd h
+stays (Err w) at rest h = refl
 
 -- `solid` is where the comments end
 from_comments : (k : ℕ) (s : List ℕ) (at q : ℕ) → length s ≤ at + k → Comments s at q → solid_from k s at ≡ q
@@ -86,23 +89,23 @@ comments_are s at = comments_from (length s) s at (omega arith)
 -- ---- two bytes
 
 -- an operator's number past 31 stands in two bytes
-pub two_bytes : (s : List ℕ) (at n next : ℕ) → 32 ≤ n → token_at s at ≡ Operator n next → next ≡ at + 2
+pub two_bytes : (s : List ℕ) (at n next : ℕ) → 32 ≤ n → token_at s at ≡ Ok (Operator n next) → next ≡ at + 2
 unfolding token_at token_of sequence
 two_bytes s at n next l = either P (ltb at (length s)) _ _ (λ _. by_first) (λ _ e. never (cc))
   where
-    P : Read → Type 0
-    P t = t ≡ Operator n next → next ≡ at + 2
+    P : Result Read Refused → Type 0
+    P t = t ≡ Ok (Operator n next) → next ≡ at + 2
 
     by_joined : (k : ℕ) (J : Joined) → P (sequence k at J)
     by_joined k (whole d x) = judged_all P k at d x (λ w e. never (cc)) (λ value e. never (cc)) (λ m e. never (cc)) (λ m e. never (cc)) (λ e. never (cc))
     by_joined k (cut_at place) = λ e. never (cc)
 
-    paired : (t : Read) → P t → P (pair s at t)
-    paired t f = either P (ltb (at + 1) (length s)) t (Unread CutOff at) (λ _. f) (λ _ e. never (cc))
+    paired : (t : Result Read Refused) → P t → P (pair s at t)
+    paired t f = either P (ltb (at + 1) (length s)) t (Err (refusal_at CutOff at)) (λ _. f) (λ _ e. never (cc))
 
     by_first : P (token_of s at (get_or s at 0) (get_or s (at + 1) 0))
     by_first =
         either P (ltb (get_or s at 0) 128) _ _ (λ _. paired _ (λ e. never (cc)))
-        (λ _. either P (ltb (get_or s at 0) 160) (Operator (get_or s at 0 % 32) (at + 1)) _
+        (λ _. either P (ltb (get_or s at 0) 160) (Ok (Operator (get_or s at 0 % 32) (at + 1))) _
         (λ _ e. let z : get_or s at 0 % 32 ≡ n = cc in absurd (omega (arith, mod-lt (get_or s at 0) {m = 32} (lit< tt))))
-        (λ _. either P (ltb (get_or s at 0) 192) _ _ (λ _. paired (Operator (get_or s at 0 % 32 * 256 + get_or s (at + 1) 0) (at + 2)) (λ e. cc)) (λ _. by_joined _ (joined_at s at))))
+        (λ _. either P (ltb (get_or s at 0) 192) _ _ (λ _. paired (Ok (Operator (get_or s at 0 % 32 * 256 + get_or s (at + 1) 0) (at + 2))) (λ e. cc)) (λ _. by_joined _ (joined_at s at))))

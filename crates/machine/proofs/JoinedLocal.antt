@@ -1,5 +1,7 @@
 -- The data of a sequence that ends inside a slice are the same bytes when read in the slice. In order: a slice as a view; pieces; joined
 -- data. Assumes nothing.
+use Rattle.std.specs.Prelude.{Option, Some, None}
+use Rattle.tokens.specs.Joined.{piece_from}
 use Prim.Native.Nat.{ℕ, zero, suc, ◌+◌, ◌-◌, ◌<◌, ◌≤◌}
 use native.Mathlib.Omega.{arith}
 use mathlib.Core.Path.{◌≡◌, refl, sym, ap, ◌∙◌}
@@ -9,7 +11,6 @@ use lib.Dec.{leb}
 use lib.ListN.{length, get_or, take}
 use lib.Seq.{slice, length-slice, get_or-drop, get_or-take, take-take, drop-drop}
 use Rattle.tokens.specs.declared.Piece.{Piece}
-use Rattle.tokens.specs.declared.Piece.TheVariants.{Data, Missing}
 use Rattle.tokens.specs.Bytes.{value_of}
 use Rattle.tokens.specs.Joined.{Joined, whole, cut_at, length_bytes, within, piece_at, continued, on_piece, joined_from, joined_at}
 use Rattle.numbers.proofs.Cond.{either, by_test, split}
@@ -37,23 +38,23 @@ view s a e h = record {
 -- ---- pieces and joined data
 
 -- a piece that is there
-within_is : (s : List ℕ) (x v f n : ℕ) → within s x v ≡ Data f n → (x ≡ f) × (v ≡ n)
+within_is : (s : List ℕ) (x v f n : ℕ) → within s x v ≡ Some (piece_from f n) → (x ≡ f) × (v ≡ n)
 unfolding within
-within_is s x v f n = either (λ w. w ≡ Data f n → (x ≡ f) × (v ≡ n)) (leb (x + v) (length s)) (Data x v) Missing (λ _ e. (cc, cc)) (λ _ e. (cc, cc))
+within_is s x v f n = either (λ w. w ≡ Some (piece_from f n) → (x ≡ f) × (v ≡ n)) (leb (x + v) (length s)) (Some (piece_from x v)) None (λ _ e. (cc, cc)) (λ _ e. (cc, cc))
 
 -- joined data end where they begin or later
 abbrev Later : ℕ → Joined → Type 0
 Later at (whole d next) = at ≤ next
 Later at (cut_at place) = Unit
 
-later_piece : (at : ℕ) (w : Piece) (n : ℕ) (F : ℕ → ℕ → Joined) → Inside n at w → ((f m : ℕ) → Later (f + m) (F f m)) → Later at (on_piece w (cut_at at) F)
+later_piece : (at : ℕ) (w : Option Piece) (n : ℕ) (F : ℕ → ℕ → Joined) → Inside n at w → ((f m : ℕ) → Later (f + m) (F f m)) → Later at (on_piece w (cut_at at) F)
 unfolding on_piece
-later_piece at (Data f m) n F i g = weaker (F f m) (g f m)
+later_piece at (Some p) n F i g = weaker (F p.start p.len) (g p.start p.len)
   where
-    weaker : (J : Joined) → Later (f + m) J → Later at J
+    weaker : (J : Joined) → Later (p.start + p.len) J → Later at J
     weaker (whole d next) h = omega (arith, i.0)
     weaker (cut_at place) h = tt
-later_piece at Missing n F i g = tt
+later_piece at None n F i g = tt
 
 later : (k : ℕ) (s : List ℕ) (at : ℕ) (d : List ℕ) → Later at (joined_from k s at d)
 unfolding joined_from
@@ -65,14 +66,14 @@ later (suc k) s at d =
 
 -- a piece, and where it lies in the slice
 record Moved (s : List ℕ) (a : ℕ) (b : List ℕ) (x at f n : ℕ) : Type 0 where
-  piece : piece_at b at ≡ Data (f - a) n
+  piece : piece_at b at ≡ Some (piece_from (f - a) n)
   bytes : slice (f - a) (f - a + n) b ≡ slice f (f + n) s
   past : x < f
   place : f + n ≡ a + (f - a + n)
 
 module _ (s : List ℕ) (a e : ℕ) (b : List ℕ) (v : View s a e b) where
   -- a piece of the whole that ends inside the slice
-  moved : (x at f n : ℕ) → x ≡ a + at → piece_at s x ≡ Data f n → f + n ≤ e → Moved s a b x at f n
+  moved : (x at f n : ℕ) → x ≡ a + at → piece_at s x ≡ Some (piece_from f n) → f + n ≤ e → Moved s a b x at f n
   unfolding piece_at
   moved x at f n p h l =
       let k : ℕ = length_bytes (get_or s x 0) in
@@ -107,25 +108,25 @@ module _ (s : List ℕ) (a e : ℕ) (b : List ℕ) (v : View s a e b) where
       by_test (continued (get_or s x 0)) (λ t. goes (λ y i c. from_local k (m - 1) y i c j next) t (piece_at s x) refl) (λ t. stops m x at d j next p g (rw t at q) l t)
     where
       goes : ((y i : ℕ) (c : List ℕ) → y ≡ a + i → length s ≤ y + k → length b ≤ i + (m - 1) → joined_from k s y c ≡ whole j next → next ≤ e → joined_from (m - 1) b i c ≡ whole j (next - a))
-          → continued (get_or s x 0) ≡ true → (w : Piece) → piece_at s x ≡ w → joined_from m b at d ≡ whole j (next - a)
-      goes ih t (Data f n) w =
-          let r : joined_from k s (f + n) (d ++ slice f (f + n) s) ≡ whole j next = rw (t, w) at q in
-          let y : f + n ≤ next = rw r at (later k s (f + n) (d ++ slice f (f + n) s)) in
-          let o : Moved s a b x at f n = moved x at f n p w (omega arith) in
+          → continued (get_or s x 0) ≡ true → (w : Option Piece) → piece_at s x ≡ w → joined_from m b at d ≡ whole j (next - a)
+      goes ih t (Some got) w =
+          let r : joined_from k s (got.start + got.len) (d ++ slice got.start (got.start + got.len) s) ≡ whole j next = rw (t, w) at q in
+          let y : got.start + got.len ≤ next = rw r at (later k s (got.start + got.len) (d ++ slice got.start (got.start + got.len) s)) in
+          let o : Moved s a b x at got.start n = moved x at got.start got.len p w (omega arith) in
           let c : continued (get_or b at 0) ≡ true = ap continued (v.byte at x p (omega arith)) ∙ t in
-          turn m b at d g ∙ rw (c, o.piece, o.bytes) (ih (f + n) (f - a + n) (d ++ slice f (f + n) s) o.place (omega arith) (omega arith) r l)
-      goes ih t Missing w = let r : cut_at x ≡ whole j next = rw (t, w) at q in let z : ◌≡◌ {A = ℕ} 0 1 = cc in absurd (omega arith)
+          turn m b at d g ∙ rw (c, o.piece, o.bytes) (ih (got.start + got.len) (got.start - a + got.len) (d ++ slice got.start (got.start + got.len) s) o.place (omega arith) (omega arith) r l)
+      goes ih t None w = let r : cut_at x ≡ whole j next = rw (t, w) at q in let z : ◌≡◌ {A = ℕ} 0 1 = cc in absurd (omega arith)
 
   pub joined_in : (x at : ℕ) (d : List ℕ) (next : ℕ) → x ≡ a + at → joined_at s x ≡ whole d next → next ≤ e → joined_at b at ≡ whole d (next - a)
   joined_in x at d next p q l = by_piece (piece_at s x) refl
     where
-      by_piece : (w : Piece) → piece_at s x ≡ w → joined_at b at ≡ whole d (next - a)
-      by_piece (Data f n) w =
-          let r : joined_from (length s) s (f + n) (slice f (f + n) s) ≡ whole d next = sym (joined_data s x f n w) ∙ q in
-          let y : f + n ≤ next = rw r at (later (length s) s (f + n) (slice f (f + n) s)) in
-          let o : Moved s a b x at f n = moved x at f n p w (omega arith) in
-          joined_data b at (f - a) n o.piece ∙ rw o.bytes (from_local (length s) (length b) (f + n) (f - a + n) (slice f (f + n) s) d next o.place (omega arith) (omega arith) r l)
-      by_piece Missing w = let z : ◌≡◌ {A = ℕ} 0 1 = cc (joined_missing s x w) in absurd (omega arith)
+      by_piece : (w : Option Piece) → piece_at s x ≡ w → joined_at b at ≡ whole d (next - a)
+      by_piece (Some got) w =
+          let r : joined_from (length s) s (got.start + got.len) (slice got.start (got.start + got.len) s) ≡ whole d next = sym (joined_data s x got.start got.len w) ∙ q in
+          let y : got.start + got.len ≤ next = rw r at (later (length s) s (got.start + got.len) (slice got.start (got.start + got.len) s)) in
+          let o : Moved s a b x at got.start n = moved x at got.start got.len p w (omega arith) in
+          joined_data b at (got.start - a) got.len o.piece ∙ rw o.bytes (from_local (length s) (length b) (got.start + got.len) (got.start - a + got.len) (slice got.start (got.start + got.len) s) d next o.place (omega arith) (omega arith) r l)
+      by_piece None w = let z : ◌≡◌ {A = ℕ} 0 1 = cc (joined_missing s x w) in absurd (omega arith)
 
 -- the same of a slice, by places of the whole
 pub joined_local : (s : List ℕ) (a e p : ℕ) (d : List ℕ) (next : ℕ) → e ≤ length s → a ≤ p → joined_at s p ≡ whole d next → next ≤ e → joined_at (slice a e s) (p - a) ≡ whole d (next - a)

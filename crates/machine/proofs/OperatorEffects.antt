@@ -1,14 +1,15 @@
 -- What every operator does, said once: a claim P of effects that every harmless effect has, that the call of the topmost value x has, and
 -- that composing and entering a literal's own body have, is had by the literal's effect. In order: harmless effects; operands; operators;
 -- a literal. Assumes nothing.
+use Rattle.std.specs.Prelude.{Ok, Err}
 use Prim.Native.Nat.{ℕ}
 use mathlib.Core.Path.{◌≡◌, refl}
 use mathlib.Core.Bool.{Bool, true, false}
 use mathlib.Core.Option.{Option, none, some}
 use lib.Dec.{eqb}
 use Rattle.numbers.specs.declared.Number as num
-use Rattle.numbers.specs.declared.Answer.{Answer}
-use Rattle.numbers.specs.declared.Answer.TheVariants.{Is, TooLarge, ByZero}
+use Rattle.numbers.specs.Fraction.{Answer}
+use Rattle.numbers.specs.declared.NoNumber.TheVariants.{TooLarge, ByZero}
 use Rattle.numbers.proofs.Cond.{either}
 use Rattle.machine.specs.declared.Value.{Value}
 use Rattle.machine.specs.declared.Value.TheVariants.{Number, Identifier, Vector, Operator}
@@ -112,9 +113,9 @@ module _ (P : Effect → Type 0) (fine : (e : Effect) → Harmless e → P e) wh
 
   answered_has : (a : Answer) → P (answered a)
   unfolding answered
-  answered_has (Is a) = fine _ tt
-  answered_has TooLarge = fine _ tt
-  answered_has ByZero = fine _ tt
+  answered_has (Ok a) = fine _ tt
+  answered_has (Err TooLarge) = fine _ tt
+  answered_has (Err ByZero) = fine _ tt
 
   -- ---- the operators
 

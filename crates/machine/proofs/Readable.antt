@@ -1,4 +1,6 @@
 -- Every body of a sound skeleton is readable in its own bytes. In order: bodies inside; the bodies of a master. Assumes nothing.
+use Rattle.std.specs.Prelude.{Result, Ok, Err}
+use Rattle.tokens.specs.declared.Refused.{Refused}
 use Prim.Native.Nat.{ℕ, zero, suc, ◌+◌, ◌-◌, ◌<◌, ◌≤◌}
 use native.Mathlib.Omega.{arith}
 use mathlib.Core.Path.{◌≡◌, refl}
@@ -11,8 +13,6 @@ use Rattle.tokens.specs.declared.Read.TheVariants as read
 use Rattle.tokens.specs.Format.{header, starts}
 use Rattle.tokens.specs.Token.{token_at}
 use Rattle.numbers.proofs.Cond.{either}
-use Rattle.machine.specs.declared.Went.{Went}
-use Rattle.machine.specs.declared.Went.TheVariants.{Past, Stop}
 use Rattle.machine.specs.declared.Literal.{Literal}
 use Rattle.machine.specs.declared.Literal.TheVariants.{Figure, Name, Text, Plain, WithBody}
 use Rattle.machine.specs.Limits.{most_open, most_pages}
@@ -38,7 +38,7 @@ module _ (b : List ℕ) where
       → Readable b (solid b at) end
   here at next end x c e l i w r = rw (solid_is b at at (none_at c)) (literal l (rw e i) (rw e w) (rw e r))
 
-  module _ (k : ℕ) (few : k ≤ most_open) (inner : (at next : ℕ) → body_at k b at ≡ Past next → Readable b (solid b (solid b at + 2)) (solid b at + 2 + (next - 2 - (solid b at + 2)))) where
+  module _ (k : ℕ) (few : k ≤ most_open) (inner : (at next : ℕ) → body_at k b at ≡ Ok next → Readable b (solid b (solid b at + 2)) (solid b at + 2 + (next - 2 - (solid b at + 2)))) where
     readable_from : (at end : ℕ) → NoComment (token_at b end) → Passes b k at end → Readable b (solid b at) end
     unfolding found_at found_by operator_by holding_at holding_by
     readable_from at end c stop = rw (solid_is b at at (none_at c)) at_its_end
@@ -54,12 +54,12 @@ module _ (b : List ℕ) where
         by_literal (comment e) r = rw (solid_is b at (solid b next) (one_at e (comments_are b next))) r
         by_literal (plain n e i) r = here at next end (Plain n) (rw e tt) (rw (e, i)) l (an_operator n next e i) (λ m start len z. never (cc)) r
         by_literal (holding n x e i h) r =
-            let g : body_at most_open b x ≡ Past next = body_more b k most_open x next few h in
+            let g : body_at most_open b x ≡ Ok next = body_more b k most_open x next few h in
             here at next end (WithBody n (solid b x + 2) (next - 2 - (solid b x + 2))) (rw e tt) (rw (e, i, g)) l (a_holder n x next e i g)
             (λ m start len z. let u : solid b x + 2 ≡ start = cc in let y : next - 2 - (solid b x + 2) ≡ len = cc in rw (← u, ← y) (inner x next h)) r
 
   -- the body that is read from a place on
-  pub inside_readable : (k : ℕ) → k ≤ most_open → (at next : ℕ) → body_at k b at ≡ Past next → Readable b (solid b (solid b at + 2)) (solid b at + 2 + (next - 2 - (solid b at + 2)))
+  pub inside_readable : (k : ℕ) → k ≤ most_open → (at next : ℕ) → body_at k b at ≡ Ok next → Readable b (solid b (solid b at + 2)) (solid b at + 2 + (next - 2 - (solid b at + 2)))
   inside_readable zero few at next h = no_body b at next h
   inside_readable (suc k) few at next h =
       let p = parts_of k b at next h in
@@ -71,7 +71,7 @@ module _ (b : List ℕ) where
 -- ---- the bodies of a master
 
 -- a body of s, in its own bytes
-pub body_readable : (s : List ℕ) (k at next : ℕ) → k ≤ most_open → body_at k s at ≡ Past next → Whole (slice (solid s at + 2) (next - 2) s)
+pub body_readable : (s : List ℕ) (k at next : ℕ) → k ≤ most_open → body_at k s at ≡ Ok next → Whole (slice (solid s at + 2) (next - 2) s)
 body_readable s zero at next few h = no_body s at next h
 body_readable s (suc k) at next few h =
     let p = parts_of k s at next h in
@@ -91,7 +91,7 @@ bytes_at s p = slice p.start (p.start + p.len) s
 abbrev pub AllWhole : List ℕ → List Span → Type 0
 AllWhole s ps = All (λ p. Whole (bytes_at s p)) ps
 
-span_readable : (s : List ℕ) (k at next : ℕ) → k ≤ most_open → body_at k s at ≡ Past next → Whole (bytes_at s (span_of (solid s at) next))
+span_readable : (s : List ℕ) (k at next : ℕ) → k ≤ most_open → body_at k s at ≡ Ok next → Whole (bytes_at s (span_of (solid s at) next))
 unfolding span_of
 span_readable s k at next few h =
     let y : solid s at + 2 + (next - 2 - (solid s at + 2)) ≡ next - 2 = omega (arith, body_long k s at next h) in
@@ -102,27 +102,27 @@ abbrev Sound : List ℕ → Skeleton → Type 0
 Sound s (sound spans) = AllWhole s spans
 Sound s (refused refusal place) = Unit
 
-onward_sound : (s : List ℕ) (w : Went) (rest : ℕ → Skeleton) → ((next : ℕ) → w ≡ Past next → Sound s (rest next)) → Sound s (onward w rest)
+onward_sound : (s : List ℕ) (w : Result ℕ Refused) (rest : ℕ → Skeleton) → ((next : ℕ) → w ≡ Ok next → Sound s (rest next)) → Sound s (onward w rest)
 unfolding onward
-onward_sound s (Past next) rest f = f next refl
-onward_sound s (Stop refusal place) rest f = tt
+onward_sound s (Ok next) rest f = f next refl
+onward_sound s (Err w) rest f = tt
 
 pages_sound : (k : ℕ) (s : List ℕ) (at : ℕ) (spans : List Span) → AllWhole s spans → Sound s (pages_from k s at spans)
 unfolding pages_from outer_by page_at ended_at
 pages_sound zero s at spans h = tt
 pages_sound (suc k) s at spans h = by_token (λ x ps. pages_sound k s x ps) (token_at s at) refl
   where
-    by_token : ((x : ℕ) (ps : List Span) → AllWhole s ps → Sound s (pages_from k s x ps)) → (t : Read) → token_at s at ≡ t → Sound s (outer_by s spans at t (pages_from k s))
-    by_token ih (read.Number value next) e = tt
-    by_token ih (read.Identifier len next) e = tt
-    by_token ih (read.String count next) e = tt
-    by_token ih (read.Operator n next) e =
+    by_token : ((x : ℕ) (ps : List Span) → AllWhole s ps → Sound s (pages_from k s x ps)) → (t : Result Read Refused) → token_at s at ≡ t → Sound s (outer_by s spans at t (pages_from k s))
+    by_token ih (Ok (read.Number value next)) e = tt
+    by_token ih (Ok (read.Identifier len next)) e = tt
+    by_token ih (Ok (read.String count next)) e = tt
+    by_token ih (Ok (read.Operator n next)) e =
         either (Sound s) (eqb n opening) _ _
         (λ _. either (Sound s) (leb (length spans) most_pages) _ _
         (λ _. onward_sound s (body_at most_open s at) _ (λ x q. ih x _ (all_append _ spans (span_of at x ∷ []) h (rw (solid_is s at at (none_at (rw e tt))) at (span_readable s most_open at x (omega arith) q), tt)))) (λ _. tt))
         (λ _. either (Sound s) (eqb n ending) _ _ (λ _. either (Sound s) (eqb next (length s)) _ _ (λ _. h) (λ _. tt)) (λ _. tt))
-    by_token ih (read.Comment next) e = ih next spans h
-    by_token ih (read.Unread refusal place) e = tt
+    by_token ih (Ok (read.Comment next)) e = ih next spans h
+    by_token ih (Err w) e = tt
 
 -- every body of a sound skeleton is readable
 pub bodies_readable : (s : List ℕ) (spans : List Span) → skeleton_of s ≡ sound spans → AllWhole s spans

@@ -1,4 +1,7 @@
 -- What a skeleton can be: sound with 1 to 513 bodies, or refused by one of the refusals 1 to 9. Assumes nothing.
+use Rattle.std.specs.Prelude.{Result, Ok, Err}
+use Rattle.tokens.specs.Refusal.{refusal_at}
+use Rattle.tokens.specs.declared.Refused.{Refused}
 use Prim.Native.Nat.{ℕ, zero, suc, ◌+◌, ◌≤◌}
 use native.Mathlib.Omega.{arith}
 use mathlib.Core.List.{List, [], ◌∷◌, ◌++◌}
@@ -6,78 +9,76 @@ use lib.Dec.{eqb, leb}
 use lib.ListN.{length, length-append}
 use borrow.Author.Tests.{leb-true}
 use Rattle.tokens.specs.declared.Read.{Read}
-use Rattle.tokens.specs.declared.Read.TheVariants.{Number, Identifier, String, Operator, Comment, Unread}
+use Rattle.tokens.specs.declared.Read.TheVariants.{Number, Identifier, String, Operator, Comment}
 use Rattle.tokens.specs.declared.Refusal.TheVariants.{BadHeader, NotAllowed, AfterEnd, TooManyPages}
 use Rattle.tokens.specs.Format.{header, starts}
 use Rattle.tokens.specs.Token.{token_at}
 use Rattle.numbers.proofs.Cond.{either}
 use Rattle.machine.specs.declared.Role.{Role}
 use Rattle.machine.specs.declared.Role.TheVariants.{Plain, Holds, Closes, Barred}
-use Rattle.machine.specs.declared.Went.{Went}
-use Rattle.machine.specs.declared.Went.TheVariants.{Past, Stop}
 use Rattle.machine.specs.declared.Passed.{Passed}
-use Rattle.machine.specs.declared.Passed.TheVariants.{On, Closed, Bad}
+use Rattle.machine.specs.declared.Passed.TheVariants.{On, Closed}
 use Rattle.machine.specs.Limits.{most_open, most_pages}
 use Rattle.machine.specs.Skeleton.{ending, beginning, opening, role_of, solid, follow, and_then, held, passing, literal_by, due_by, due, literals_from, body_at, Span, Skeleton, sound, refused, onward, span_of, ended_at, page_at, outer_by, pages_from, preamble_at, skeleton_of}
 use Rattle.machine.proofs.TokenRefusals.{Early, ReadEarly, unread, token_early}
 
 -- ---- bodies and literals
 
-abbrev WentEarly : Went → Type 0
-WentEarly (Past next) = Unit
-WentEarly (Stop w p) = Early w
+abbrev WentEarly : Result ℕ Refused → Type 0
+WentEarly (Ok next) = Unit
+WentEarly (Err why) = Early why.refusal
 
-abbrev PassedEarly : Passed → Type 0
-PassedEarly (On next) = Unit
-PassedEarly (Closed next) = Unit
-PassedEarly (Bad w p) = Early w
+abbrev PassedEarly : Result Passed Refused → Type 0
+PassedEarly (Ok (On next)) = Unit
+PassedEarly (Ok (Closed next)) = Unit
+PassedEarly (Err why) = Early why.refusal
 
-follow_early : (v : Went) (rest : ℕ → Went) → WentEarly v → ((n : ℕ) → WentEarly (rest n)) → WentEarly (follow v rest)
+follow_early : (v : Result ℕ Refused) (rest : ℕ → Result ℕ Refused) → WentEarly v → ((n : ℕ) → WentEarly (rest n)) → WentEarly (follow v rest)
 unfolding follow
-follow_early (Past next) rest e f = f next
-follow_early (Stop w p) rest e f = e
+follow_early (Ok next) rest e f = f next
+follow_early (Err why) rest e f = e
 
-then_early : (v : Passed) (rest : ℕ → Went) → PassedEarly v → ((n : ℕ) → WentEarly (rest n)) → WentEarly (and_then v rest)
+then_early : (v : Result Passed Refused) (rest : ℕ → Result ℕ Refused) → PassedEarly v → ((n : ℕ) → WentEarly (rest n)) → WentEarly (and_then v rest)
 unfolding and_then
-then_early (On next) rest e f = f next
-then_early (Closed next) rest e f = tt
-then_early (Bad w p) rest e f = e
+then_early (Ok (On next)) rest e f = f next
+then_early (Ok (Closed next)) rest e f = tt
+then_early (Err why) rest e f = e
 
-held_early : (v : Went) → WentEarly v → PassedEarly (held v)
+held_early : (v : Result ℕ Refused) → WentEarly v → PassedEarly (held v)
 unfolding held
-held_early (Past next) e = tt
-held_early (Stop w p) e = e
+held_early (Ok next) e = tt
+held_early (Err why) e = e
 
-passing_early : (r : Role) (at : ℕ) (inner : ℕ → Went) (next : ℕ) → ((n : ℕ) → WentEarly (inner n)) → PassedEarly (passing r at inner next)
+passing_early : (r : Role) (at : ℕ) (inner : ℕ → Result ℕ Refused) (next : ℕ) → ((n : ℕ) → WentEarly (inner n)) → PassedEarly (passing r at inner next)
 unfolding passing
 passing_early Plain at inner next f = tt
 passing_early Holds at inner next f = held_early (inner next) (f next)
 passing_early Closes at inner next f = tt
 passing_early Barred at inner next f = omega arith
 
-literal_early : (at : ℕ) (inner : ℕ → Went) (x : Read) → ReadEarly x → ((n : ℕ) → WentEarly (inner n)) → PassedEarly (literal_by at inner x)
+literal_early : (at : ℕ) (inner : ℕ → Result ℕ Refused) (x : Result Read Refused) → ReadEarly x → ((n : ℕ) → WentEarly (inner n)) → PassedEarly (literal_by at inner x)
 unfolding literal_by
-literal_early at inner (Number value next) e f = tt
-literal_early at inner (Identifier len next) e f = tt
-literal_early at inner (String count next) e f = tt
-literal_early at inner (Operator n next) e f = passing_early (role_of n) at inner next f
-literal_early at inner (Comment next) e f = tt
-literal_early at inner (Unread w p) (unread _ e) f = e
+literal_early at inner (Ok (Number value next)) e f = tt
+literal_early at inner (Ok (Identifier len next)) e f = tt
+literal_early at inner (Ok (String count next)) e f = tt
+literal_early at inner (Ok (Operator n next)) e f = passing_early (role_of n) at inner next f
+literal_early at inner (Ok (Comment next)) e f = tt
+literal_early at inner (Err why) (unread _ e) f = e
 
-due_by_lem : (n at : ℕ) (x : Read) → ReadEarly x → WentEarly (due_by n at x)
+due_by_lem : (n at : ℕ) (x : Result Read Refused) → ReadEarly x → WentEarly (due_by n at x)
 unfolding due_by
-due_by_lem n at (Number value next) e = omega arith
-due_by_lem n at (Identifier len next) e = omega arith
-due_by_lem n at (String count next) e = omega arith
-due_by_lem n at (Operator m next) e = either WentEarly (eqb m n) (Past next) (Stop NotAllowed at) (λ _. tt) (λ _. omega arith)
-due_by_lem n at (Comment next) e = omega arith
-due_by_lem n at (Unread w p) (unread _ e) = e
+due_by_lem n at (Ok (Number value next)) e = omega arith
+due_by_lem n at (Ok (Identifier len next)) e = omega arith
+due_by_lem n at (Ok (String count next)) e = omega arith
+due_by_lem n at (Ok (Operator m next)) e = either WentEarly (eqb m n) (Ok next) (Err (refusal_at NotAllowed at)) (λ _. tt) (λ _. omega arith)
+due_by_lem n at (Ok (Comment next)) e = omega arith
+due_by_lem n at (Err why) (unread _ e) = e
 
 due_early : (n : ℕ) (s : List ℕ) (at : ℕ) → WentEarly (due n s at)
 unfolding due
 due_early n s at = due_by_lem n (solid s at) (token_at s (solid s at)) (token_early s (solid s at))
 
-literals_early : (k : ℕ) (one : ℕ → Passed) (at : ℕ) → ((n : ℕ) → PassedEarly (one n)) → WentEarly (literals_from k one at)
+literals_early : (k : ℕ) (one : ℕ → Result Passed Refused) (at : ℕ) → ((n : ℕ) → PassedEarly (one n)) → WentEarly (literals_from k one at)
 unfolding literals_from
 literals_early zero one at f = omega arith
 literals_early (suc k) one at f = then_early (one at) (literals_from k one) (f at) (λ n. literals_early k one n f)
@@ -96,10 +97,10 @@ abbrev pub Fits : Skeleton → Type 0
 Fits (sound spans) = (1 ≤ length spans) × (length spans ≤ most_pages + 1)
 Fits (refused w p) = Early w
 
-onward_fits : (v : Went) (rest : ℕ → Skeleton) → WentEarly v → ((n : ℕ) → Fits (rest n)) → Fits (onward v rest)
+onward_fits : (v : Result ℕ Refused) (rest : ℕ → Skeleton) → WentEarly v → ((n : ℕ) → Fits (rest n)) → Fits (onward v rest)
 unfolding onward
-onward_fits (Past next) rest e f = f next
-onward_fits (Stop w p) rest e f = e
+onward_fits (Ok next) rest e f = f next
+onward_fits (Err why) rest e f = e
 
 ended_fits : (s : List ℕ) (spans : List Span) (next : ℕ) → Fits (sound spans) → Fits (ended_at s spans next)
 unfolding ended_at
@@ -114,16 +115,16 @@ module _ (s : List ℕ) (rest : ℕ → List Span → Skeleton) (f : (n : ℕ) (
       (λ n. f n (spans ++ (span_of at n ∷ [])) (simp length-append (omega arith), simp length-append (omega (arith, leb-true (length spans) most_pages e)))))
       (λ _. omega arith)
 
-  outer_fits : (spans : List Span) (at : ℕ) (x : Read) → ReadEarly x → Fits (sound spans) → Fits (outer_by s spans at x rest)
+  outer_fits : (spans : List Span) (at : ℕ) (x : Result Read Refused) → ReadEarly x → Fits (sound spans) → Fits (outer_by s spans at x rest)
   unfolding outer_by
-  outer_fits spans at (Number value next) e h = omega arith
-  outer_fits spans at (Identifier len next) e h = omega arith
-  outer_fits spans at (String count next) e h = omega arith
-  outer_fits spans at (Operator n next) e h =
+  outer_fits spans at (Ok (Number value next)) e h = omega arith
+  outer_fits spans at (Ok (Identifier len next)) e h = omega arith
+  outer_fits spans at (Ok (String count next)) e h = omega arith
+  outer_fits spans at (Ok (Operator n next)) e h =
       either Fits (eqb n opening) _ _ (λ _. page_fits spans at h)
       (λ _. either Fits (eqb n ending) _ (refused NotAllowed at) (λ _. ended_fits s spans next h) (λ _. omega arith))
-  outer_fits spans at (Comment next) e h = f next spans h
-  outer_fits spans at (Unread w p) (unread _ e) h = e
+  outer_fits spans at (Ok (Comment next)) e h = f next spans h
+  outer_fits spans at (Err why) (unread _ e) h = e
 
 pages_fit : (k : ℕ) (s : List ℕ) (at : ℕ) (spans : List Span) → Fits (sound spans) → Fits (pages_from k s at spans)
 unfolding pages_from

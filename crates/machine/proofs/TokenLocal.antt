@@ -1,5 +1,8 @@
 -- Reading a token is local: a token that ends inside a slice is read in the slice as in the whole, its places counted from the slice's
 -- start. What stands after it need not be known: a sequence that ended is not continued. Assumes nothing.
+use Rattle.std.specs.Prelude.{Result, Ok, Err}
+use Rattle.tokens.specs.Refusal.{refusal_at}
+use Rattle.tokens.specs.declared.Refused.{Refused}
 use Prim.Native.Nat.{ℕ, ◌+◌, ◌-◌, ◌*◌, ◌%◌, ◌<◌, ◌≤◌}
 use native.Mathlib.Omega.{arith}
 use mathlib.Core.Path.{◌≡◌, refl, sym, ◌∙◌}
@@ -11,10 +14,10 @@ use lib.ListN.{length, get_or}
 use lib.Seq.{slice}
 use borrow.Author.Tests.{ltb-true, lt-ltb}
 use Rattle.numbers.specs.declared.Number as num
-use Rattle.numbers.specs.declared.Answer.{Answer}
-use Rattle.numbers.specs.declared.Answer.TheVariants.{Is, TooLarge, ByZero}
+use Rattle.numbers.specs.Fraction.{Answer}
+use Rattle.numbers.specs.declared.NoNumber.TheVariants.{TooLarge, ByZero}
 use Rattle.tokens.specs.declared.Read.{Read}
-use Rattle.tokens.specs.declared.Read.TheVariants.{Number, Identifier, String, Operator, Comment, Unread}
+use Rattle.tokens.specs.declared.Read.TheVariants.{Number, Identifier, String, Operator, Comment}
 use Rattle.tokens.specs.declared.Refusal.{Refusal}
 use Rattle.tokens.specs.declared.Refusal.TheVariants.{CutOff, BadData, TypeNotRead, NothingContinued}
 use Rattle.tokens.specs.declared.Rule.TheVariants.{Plain, Named}
@@ -28,46 +31,46 @@ use Rattle.machine.proofs.Inside.{EndsIn, token_inside}
 use Rattle.machine.proofs.JoinedLocal.{View, view, joined_in}
 
 -- the token with its places counted from a
-unfoldable pub back : ℕ → Read → Read
-back a (Number value next) = Number value (next - a)
-back a (Identifier len next) = Identifier len (next - a)
-back a (String count next) = String count (next - a)
-back a (Operator n next) = Operator n (next - a)
-back a (Comment next) = Comment (next - a)
-back a (Unread refusal place) = Unread refusal (place - a)
+unfoldable pub back : ℕ → Result Read Refused → Result Read Refused
+back a (Ok (Number value next)) = Ok (Number value (next - a))
+back a (Ok (Identifier len next)) = Ok (Identifier len (next - a))
+back a (Ok (String count next)) = Ok (String count (next - a))
+back a (Ok (Operator n next)) = Ok (Operator n (next - a))
+back a (Ok (Comment next)) = Ok (Comment (next - a))
+back a (Err w) = Err (refusal_at w.refusal (w.place - a))
 
 -- it was read, and ends at e or before
-abbrev pub EndsBy : ℕ → Read → Type 0
-EndsBy e (Number value next) = next ≤ e
-EndsBy e (Identifier len next) = next ≤ e
-EndsBy e (String count next) = next ≤ e
-EndsBy e (Operator n next) = next ≤ e
-EndsBy e (Comment next) = next ≤ e
-EndsBy e (Unread refusal place) = ⊥
+abbrev pub EndsBy : ℕ → Result Read Refused → Type 0
+EndsBy e (Ok (Number value next)) = next ≤ e
+EndsBy e (Ok (Identifier len next)) = next ≤ e
+EndsBy e (Ok (String count next)) = next ≤ e
+EndsBy e (Ok (Operator n next)) = next ≤ e
+EndsBy e (Ok (Comment next)) = next ≤ e
+EndsBy e (Err w) = ⊥
 
-back_cond : (a : ℕ) (c : Bool) (t u : Read) → back a (cond c t u) ≡ cond c (back a t) (back a u)
+back_cond : (a : ℕ) (c : Bool) (t u : Result Read Refused) → back a (cond c t u) ≡ cond c (back a t) (back a u)
 back_cond a true t u = refl
 back_cond a false t u = refl
 
 back_number : (a at next : ℕ) (r : Answer) → back a (number_read at next r) ≡ number_read (at - a) (next - a) r
 unfolding back number_read
-back_number a at next (Is value) = refl
-back_number a at next TooLarge = refl
-back_number a at next ByZero = refl
+back_number a at next (Ok value) = refl
+back_number a at next (Err TooLarge) = refl
+back_number a at next (Err ByZero) = refl
 
 back_judged : (a k at : ℕ) (d : List ℕ) (next : ℕ) → back a (judged k at d next) ≡ judged k (at - a) d (next - a)
 unfolding judged back
 back_judged a k at d next = simp (back_cond, back_number)
 
 -- a fact of every token that data up to `next` can be
-number_all : (P : Read → Type 0) (at next : ℕ) (r : Answer) → ((w : Refusal) → P (Unread w at)) → ((value : num.Number) → P (Number value next)) → P (number_read at next r)
+number_all : (P : Result Read Refused → Type 0) (at next : ℕ) (r : Answer) → ((w : Refusal) → P (Err (refusal_at w at))) → ((value : num.Number) → P (Ok (Number value next))) → P (number_read at next r)
 unfolding number_read
-number_all P at next (Is value) no_read f = f value
-number_all P at next TooLarge no_read f = no_read BadData
-number_all P at next ByZero no_read f = no_read BadData
+number_all P at next (Ok value) no_read f = f value
+number_all P at next (Err TooLarge) no_read f = no_read BadData
+number_all P at next (Err ByZero) no_read f = no_read BadData
 
-pub judged_all : (P : Read → Type 0) (k at : ℕ) (d : List ℕ) (next : ℕ) → ((w : Refusal) → P (Unread w at)) → ((value : num.Number) → P (Number value next)) → ((n : ℕ) → P (Identifier n next))
-    → ((n : ℕ) → P (String n next)) → P (Comment next) → P (judged k at d next)
+pub judged_all : (P : Result Read Refused → Type 0) (k at : ℕ) (d : List ℕ) (next : ℕ) → ((w : Refusal) → P (Err (refusal_at w at))) → ((value : num.Number) → P (Ok (Number value next))) → ((n : ℕ) → P (Ok (Identifier n next)))
+    → ((n : ℕ) → P (Ok (String n next))) → P (Ok (Comment next)) → P (judged k at d next)
 unfolding judged
 judged_all P k at d next none number name text comment =
     either P (eqb k 1) _ _ (λ _. either P (every Plain d) _ _ (λ _. text (length d)) (λ _. none BadData))
@@ -84,20 +87,20 @@ judged_ends e k at d next = judged_all (λ t. EndsBy e t → next ≤ e) k at d 
 pub begins_before : (s : List ℕ) (at e : ℕ) → EndsBy e (token_at s at) → at < e
 begins_before s at e = by_token (token_at s at) (token_inside s at)
   where
-    by_token : (t : Read) → EndsIn (length s) at t → EndsBy e t → at < e
-    by_token (Number value next) g h = omega (arith, g.0)
-    by_token (Identifier len next) g h = omega (arith, g.0)
-    by_token (String count next) g h = omega (arith, g.0)
-    by_token (Operator n next) g h = omega (arith, g.0)
-    by_token (Comment next) g h = omega (arith, g.0)
-    by_token (Unread refusal place) g h = absurd h
+    by_token : (t : Result Read Refused) → EndsIn (length s) at t → EndsBy e t → at < e
+    by_token (Ok (Number value next)) g h = omega (arith, g.0)
+    by_token (Ok (Identifier len next)) g h = omega (arith, g.0)
+    by_token (Ok (String count next)) g h = omega (arith, g.0)
+    by_token (Ok (Operator n next)) g h = omega (arith, g.0)
+    by_token (Ok (Comment next)) g h = omega (arith, g.0)
+    by_token (Err w) g h = absurd h
 
 module _ (s : List ℕ) (a e : ℕ) (b : List ℕ) (v : View s a e b) where
   pub token_in : (x at : ℕ) → x ≡ a + at → EndsBy e (token_at s x) → token_at b at ≡ back a (token_at s x)
   unfolding token_at token_of sequence back
   token_in x at p = either P (ltb x (length s)) _ _ (λ i. by_first (ltb-true x (length s) i)) (λ _ h. absurd h)
     where
-      P : Read → Type 0
+      P : Result Read Refused → Type 0
       P t = EndsBy e t → token_at b at ≡ back a t
 
       c : ℕ
@@ -123,17 +126,17 @@ module _ (s : List ℕ) (a e : ℕ) (b : List ℕ) (v : View s a e b) where
           first (omega (arith, g.0)) ∙ (rw (c1, c2, c3, joined_in s a e b v x at d next p q n, z) (sym (back_judged a (c % 32) x d next)))
       by_joined i (cut_at place) q c1 c2 c3 h = absurd h
 
-      paired : (t : Read) → P t → P (pair s x t)
-      paired t f = either P (ltb (x + 1) (length s)) t (Unread CutOff x) (λ _. f) (λ _ h. absurd h)
+      paired : (t : Result Read Refused) → P t → P (pair s x t)
+      paired t f = either P (ltb (x + 1) (length s)) t (Err (refusal_at CutOff x)) (λ _. f) (λ _ h. absurd h)
 
-      short : ltb c 128 ≡ true → P (Number (record { num = pos (c % 128 * 256 + get_or s (x + 1) 0) -ℤ pos bias; den = 1 }) (x + 2))
+      short : ltb c 128 ≡ true → P (Ok (Number (record { num = pos (c % 128 * 256 + get_or s (x + 1) 0) -ℤ pos bias; den = 1 }) (x + 2)))
       short k h = two h ∙ rw (k, second h, past 2)
 
       by_first : x < length s → P (token_of s x c (get_or s (x + 1) 0))
       by_first i =
           either P (ltb c 128) _ _ (λ k. paired _ (short k))
-          (λ j. either P (ltb c 160) (Operator (c % 32) (x + 1)) _ (λ k h. first (omega (arith, h)) ∙ rw (j, k, past 1))
-          (λ k. either P (ltb c 192) _ _ (λ l. paired (Operator (c % 32 * 256 + get_or s (x + 1) 0) (x + 2)) (λ h. two h ∙ rw (j, k, l, second h, past 2)))
+          (λ j. either P (ltb c 160) (Ok (Operator (c % 32) (x + 1))) _ (λ k h. first (omega (arith, h)) ∙ rw (j, k, past 1))
+          (λ k. either P (ltb c 192) _ _ (λ l. paired (Ok (Operator (c % 32 * 256 + get_or s (x + 1) 0) (x + 2))) (λ h. two h ∙ rw (j, k, l, second h, past 2)))
           (λ l. by_joined i (joined_at s x) refl j k l)))
 
 -- the same of a slice, by places of the whole

@@ -1,4 +1,6 @@
 -- The verdicts there are on a master, and what each answer of `load`, `run` and `reprint` says of bodies and tables. Assumes nothing.
+use Rattle.std.specs.Prelude.{Ok, Err}
+use Rattle.tokens.specs.Refusal.{refusal_at}
 use Prim.Native.Nat.{ℕ, suc, ◌+◌, ◌-◌, ◌*◌, ◌≤◌, ◌<◌}
 use native.Mathlib.Omega.{arith}
 use mathlib.Core.Path.{◌≡◌, refl, sym, ap, ◌∙◌}
@@ -13,7 +15,6 @@ use borrow.Author.Tests.{leb-true, ltb-true, le-leb}
 use Rattle.tokens.specs.declared.Refusal.{Refusal}
 use Rattle.tokens.specs.declared.Refusal.TheVariants.{TooLong, TableTooShort, PreambleUnfinished, NoSuchPage, BadAllowance}
 use Rattle.tokens.specs.Refusal.{number_of}
-use Rattle.tokens.specs.declared.Outcome.TheVariants.{Done, Refused}
 use Rattle.tokens.specs.Format.{longest}
 use Rattle.numbers.proofs.Cond.{either, both, by_test}
 use Rattle.machine.specs.Limits.{most_pages, most_steps, scratch_size, rows_size, sections_size}
@@ -116,7 +117,7 @@ Left w scratch scratch' = (w ≢ PreambleUnfinished → scratch' ≡ scratch) ×
 
 module _ (s : List ℕ) (a : ℤ) (scratch scratch' rows rows' : List ℕ) where
   ran_by : (c : ℕ) (v : Verdict) → Comes s (leb scratch_size (length scratch) && leb rows_size (length rows)) 0 v
-      → Done c ≡ run_answer v → scratch' ≡ scratch_leaves v scratch → rows' ≡ rows_leaves a v rows → Ran s a scratch scratch' rows rows' c
+      → Ok c ≡ run_answer v → scratch' ≡ scratch_leaves v scratch → rows' ≡ rows_leaves a v rows → Ran s a scratch scratch' rows rows' c
   unfolding run_answer scratch_leaves rows_leaves
   ran_by c _ (runs e h) q x y =
       let n : c ≡ length (bodies_in s) - 1 = cc in
@@ -126,17 +127,17 @@ module _ (s : List ℕ) (a : ℤ) (scratch scratch' rows rows' : List ℕ) where
   ran_by c _ (stops h) q x y = absurd (let z : ◌≡◌ {A = ℕ} 0 1 = cc in omega arith)
 
   kept_by : (w : Refusal) (p : ℕ) (v : Verdict) → Comes s (leb scratch_size (length scratch) && leb rows_size (length rows)) 0 v
-      → Refused w p ≡ run_answer v → scratch' ≡ scratch_leaves v scratch → rows' ≡ rows_leaves a v rows → (rows' ≡ rows) × Left w scratch scratch'
+      → Err (refusal_at w p) ≡ run_answer v → scratch' ≡ scratch_leaves v scratch → rows' ≡ rows_leaves a v rows → (rows' ≡ rows) × Left w scratch scratch'
   unfolding run_answer scratch_leaves rows_leaves
   kept_by w p _ (runs e h) q x y = absurd (let z : ◌≡◌ {A = ℕ} 0 1 = cc in omega arith)
   kept_by w p _ waits q x y = let z : w ≡ PreambleUnfinished = cc in (y, ((λ h. absurd (h z)), λ _. x))
   kept_by w p _ (stops {w = u} h) q x y = let z : w ≡ u = cc in (y, ((λ _. x), λ e. absurd (h (sym z ∙ e))))
 
-pub ran : {s : List ℕ} {a : ℤ} {scratch scratch' rows rows' : List ℕ} {c : ℕ} → Runs s a scratch scratch' rows rows' (Done c) → Ran s a scratch scratch' rows rows' c
+pub ran : {s : List ℕ} {a : ℤ} {scratch scratch' rows rows' : List ℕ} {c : ℕ} → Runs s a scratch scratch' rows rows' (Ok c) → Ran s a scratch scratch' rows rows' c
 ran {s} {a} {scratch} {scratch'} {rows} {rows'} {c} r =
     ran_by s a scratch scratch' rows rows' c (run_verdict s a scratch rows) (run_comes s a scratch rows) r.answer r.scratch_left r.rows_left
 
-pub run_refused : {s : List ℕ} {a : ℤ} {scratch scratch' rows rows' : List ℕ} {w : Refusal} {p : ℕ} → Runs s a scratch scratch' rows rows' (Refused w p)
+pub run_refused : {s : List ℕ} {a : ℤ} {scratch scratch' rows rows' : List ℕ} {w : Refusal} {p : ℕ} → Runs s a scratch scratch' rows rows' (Err (refusal_at w p))
     → (rows' ≡ rows) × Left w scratch scratch'
 run_refused {s} {a} {scratch} {scratch'} {rows} {rows'} {w} {p} r =
     kept_by s a scratch scratch' rows rows' w p (run_verdict s a scratch rows) (run_comes s a scratch rows) r.answer r.scratch_left r.rows_left
@@ -155,7 +156,7 @@ module _ (s : List ℕ) (a page : ℤ) (scratch scratch' rows rows' sections sec
   abbrev lent : Bool
   lent = leb scratch_size (length scratch) && (leb rows_size (length rows) && leb sections_size (length sections))
 
-  reprinted_by : (k : ℕ) (v : Verdict) → Comes s lent (nat_abs page) v → Done k ≡ reprint_answer page v
+  reprinted_by : (k : ℕ) (v : Verdict) → Comes s lent (nat_abs page) v → Ok k ≡ reprint_answer page v
       → scratch' ≡ scratch_leaves v scratch → rows' ≡ row_leaves a page v rows → sections' ≡ sections_leaves a page v sections
       → Reprinted s a (nat_abs page) scratch scratch' rows rows' sections sections'
   unfolding reprint_answer scratch_leaves row_leaves sections_leaves
@@ -166,7 +167,7 @@ module _ (s : List ℕ) (a page : ℤ) (scratch scratch' rows rows' sections sec
   reprinted_by k _ waits q x y z = absurd (let o : ◌≡◌ {A = ℕ} 0 1 = cc in omega arith)
   reprinted_by k _ (stops h) q x y z = absurd (let o : ◌≡◌ {A = ℕ} 0 1 = cc in omega arith)
 
-  left_by : (w : Refusal) (p : ℕ) (v : Verdict) → Comes s lent (nat_abs page) v → Refused w p ≡ reprint_answer page v
+  left_by : (w : Refusal) (p : ℕ) (v : Verdict) → Comes s lent (nat_abs page) v → Err (refusal_at w p) ≡ reprint_answer page v
       → scratch' ≡ scratch_leaves v scratch → rows' ≡ row_leaves a page v rows → sections' ≡ sections_leaves a page v sections
       → (rows' ≡ rows) × (sections' ≡ sections) × Left w scratch scratch'
   unfolding reprint_answer scratch_leaves row_leaves sections_leaves
@@ -175,12 +176,12 @@ module _ (s : List ℕ) (a page : ℤ) (scratch scratch' rows rows' sections sec
   left_by w p _ (stops {w = u} h) q x y z = let o : w ≡ u = cc in (y, z, ((λ _. x), λ e. absurd (h (sym o ∙ e))))
 
 pub reprinted : {s : List ℕ} {a page : ℤ} {n : ℕ} {scratch scratch' rows rows' sections sections' : List ℕ}
-    → Reprints s a page scratch scratch' rows rows' sections sections' (Done n) → Reprinted s a (nat_abs page) scratch scratch' rows rows' sections sections'
+    → Reprints s a page scratch scratch' rows rows' sections sections' (Ok n) → Reprinted s a (nat_abs page) scratch scratch' rows rows' sections sections'
 reprinted {s} {a} {page} {n} {scratch} {scratch'} {rows} {rows'} {sections} {sections'} r =
     reprinted_by s a page scratch scratch' rows rows' sections sections' n _ (reprint_comes s a page scratch rows sections) r.answer r.scratch_left r.rows_left r.sections_left
 
 pub reprint_refused : {s : List ℕ} {a page : ℤ} {scratch scratch' rows rows' sections sections' : List ℕ} {w : Refusal} {p : ℕ}
-    → Reprints s a page scratch scratch' rows rows' sections sections' (Refused w p) → (rows' ≡ rows) × (sections' ≡ sections) × Left w scratch scratch'
+    → Reprints s a page scratch scratch' rows rows' sections sections' (Err (refusal_at w p)) → (rows' ≡ rows) × (sections' ≡ sections) × Left w scratch scratch'
 reprint_refused {s} {a} {page} {scratch} {scratch'} {rows} {rows'} {sections} {sections'} {w} {p} r =
     left_by s a page scratch scratch' rows rows' sections sections' w p _ (reprint_comes s a page scratch rows sections) r.answer r.scratch_left r.rows_left r.sections_left
 
@@ -188,25 +189,25 @@ reprint_refused {s} {a} {page} {scratch} {scratch'} {rows} {rows'} {sections} {s
 
 module _ (s : List ℕ) (n : ℕ) (scratch rows : List ℕ) where
   finished_answer : (c : ℕ) (bodies : List (List ℕ)) → c ≡ length bodies - 1
-      → (run_answer (finished (pos n) bodies) ≡ Done c) ⊎ (run_answer (finished (pos n) bodies) ≡ Refused PreambleUnfinished 0)
+      → (run_answer (finished (pos n) bodies) ≡ Ok c) ⊎ (run_answer (finished (pos n) bodies) ≡ Err (refusal_at PreambleUnfinished 0))
   unfolding finished run_answer
   finished_answer c bodies e =
-      either (λ v. (run_answer v ≡ Done c) ⊎ (run_answer v ≡ Refused PreambleUnfinished 0)) (eqb (outcome (preamble_end n (preamble_of bodies))) 3) unfinished (accepted bodies)
-      (λ _. inr refl) (λ _. inl (ap Done (sym e)))
+      either (λ v. (run_answer v ≡ Ok c) ⊎ (run_answer v ≡ Err (refusal_at PreambleUnfinished 0))) (eqb (outcome (preamble_end n (preamble_of bodies))) 3) unfinished (accepted bodies)
+      (λ _. inr refl) (λ _. inl (ap Ok (sym e)))
 
-  pub run_loaded : (c : ℕ) → load_answer s ≡ Done c → scratch_size ≤ length scratch → rows_size ≤ length rows → 1 ≤ n → n ≤ most_steps
-      → (run_answer (run_verdict s (pos n) scratch rows) ≡ Done c) ⊎ (run_answer (run_verdict s (pos n) scratch rows) ≡ Refused PreambleUnfinished 0)
+  pub run_loaded : (c : ℕ) → load_answer s ≡ Ok c → scratch_size ≤ length scratch → rows_size ≤ length rows → 1 ≤ n → n ≤ most_steps
+      → (run_answer (run_verdict s (pos n) scratch rows) ≡ Ok c) ⊎ (run_answer (run_verdict s (pos n) scratch rows) ≡ Err (refusal_at PreambleUnfinished 0))
   unfolding pages_in load_answer run_verdict admitted allowed on_sound bodies_of
   run_loaded c q x y l m =
       by_test (leb (length s) longest)
       (λ e. by (skeleton_of s) refl e)
-      (λ e. absurd (let w : Refused TooLong 0 ≡ Done c = rw e at q in let z : ◌≡◌ {A = ℕ} 0 1 = cc in omega arith))
+      (λ e. absurd (let w : Err (refusal_at TooLong 0) ≡ Ok c = rw e at q in let z : ◌≡◌ {A = ℕ} 0 1 = cc in omega arith))
     where
       by : (k : Skeleton) → skeleton_of s ≡ k → leb (length s) longest ≡ true
-          → (run_answer (run_verdict s (pos n) scratch rows) ≡ Done c) ⊎ (run_answer (run_verdict s (pos n) scratch rows) ≡ Refused PreambleUnfinished 0)
+          → (run_answer (run_verdict s (pos n) scratch rows) ≡ Ok c) ⊎ (run_answer (run_verdict s (pos n) scratch rows) ≡ Err (refusal_at PreambleUnfinished 0))
       by (sound spans) w e =
-          let g : Done (length spans - 1) ≡ Done c = rw (e, w) at q in
+          let g : Ok (length spans - 1) ≡ Ok c = rw (e, w) at q in
           let h : c ≡ length spans - 1 = cc in
           rw (e, le-leb scratch_size (length scratch) x, le-leb rows_size (length rows) y, le-leb 1 n l, le-leb n most_steps m, w)
           (finished_answer c (bodies_of s spans) (simp length-map h))
-      by (refused v p) w e = absurd (let g : Refused v p ≡ Done c = rw (e, w) at q in let z : ◌≡◌ {A = ℕ} 0 1 = cc in omega arith)
+      by (refused v p) w e = absurd (let g : Err (refusal_at v p) ≡ Ok c = rw (e, w) at q in let z : ◌≡◌ {A = ℕ} 0 1 = cc in omega arith)

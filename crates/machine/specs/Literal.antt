@@ -1,6 +1,8 @@
 -- The literal at a place of a body's bytes, and the bytes that values point to (01, Outcomes and numbers: "a start counts from just after
 -- that body's `{`"; R27). Of a body that the skeleton accepts every place where the machine reads holds a literal; where there is none,
 -- the operator 0, which no master has, ends the body. Assumes nothing.
+use Rattle.std.specs.Prelude.{Result, Ok, Err}
+use Rattle.tokens.specs.declared.Refused.{Refused}
 use Rattle.std.specs.Prelude.{ℕ, ◌+◌, ◌-◌, Bool, true, false, ◌&&◌, List, [], ◌∷◌, eqb, pos, length, get_or}
 use Rattle.tokens.specs.declared.Read.{Read}
 use Rattle.tokens.specs.declared.Read.TheVariants as read
@@ -9,8 +11,6 @@ use Rattle.tokens.specs.Joined.{data_of, joined_at}
 use Rattle.tokens.specs.Token.{token_at}
 use Rattle.machine.specs.declared.Role.{Role}
 use Rattle.machine.specs.declared.Role.TheVariants as role
-use Rattle.machine.specs.declared.Went.{Went}
-use Rattle.machine.specs.declared.Went.TheVariants.{Past, Stop}
 use Rattle.machine.specs.declared.Value.{Value}
 use Rattle.machine.specs.declared.Value.TheVariants.{Number, Identifier, Vector, Operator}
 use Rattle.machine.specs.declared.Literal.{Literal}
@@ -38,9 +38,9 @@ unfoldable pub nothing_at : List ℕ → Found
 nothing_at b = record { literal = Plain 0; next = length b }
 
 -- the body operator n with the body that stands from `next` on
-unfoldable pub holding_by : List ℕ → ℕ → ℕ → Went → Found
-holding_by b n start (Past next) = found b (WithBody n start (next - 2 - start)) next
-holding_by b n start (Stop refusal place) = nothing_at b
+unfoldable pub holding_by : List ℕ → ℕ → ℕ → Result ℕ Refused → Found
+holding_by b n start (Ok next) = found b (WithBody n start (next - 2 - start)) next
+holding_by b n start (Err w) = nothing_at b
 
 unfoldable pub holding_at : List ℕ → ℕ → ℕ → Found
 holding_at b n next = holding_by b n (solid b next + 2) (body_at most_open b next)
@@ -51,13 +51,13 @@ operator_by role.Holds b n next = holding_at b n next
 operator_by role.Closes b n next = nothing_at b
 operator_by role.Barred b n next = nothing_at b
 
-unfoldable pub found_by : List ℕ → ℕ → Read → Found
-found_by b at (read.Number value next) = found b (Figure value) next
-found_by b at (read.Identifier len next) = found b (Name at len) next
-found_by b at (read.String count next) = found b (Text at) next
-found_by b at (read.Operator n next) = operator_by (role_of n) b n next
-found_by b at (read.Comment next) = nothing_at b
-found_by b at (read.Unread refusal place) = nothing_at b
+unfoldable pub found_by : List ℕ → ℕ → Result Read Refused → Found
+found_by b at (Ok (read.Number value next)) = found b (Figure value) next
+found_by b at (Ok (read.Identifier len next)) = found b (Name at len) next
+found_by b at (Ok (read.String count next)) = found b (Text at) next
+found_by b at (Ok (read.Operator n next)) = operator_by (role_of n) b n next
+found_by b at (Ok (read.Comment next)) = nothing_at b
+found_by b at (Err w) = nothing_at b
 
 unfoldable pub found_at : List ℕ → ℕ → Found
 found_at b at = found_by b at (token_at b at)

@@ -1,8 +1,9 @@
 -- Whole masters that are proved to load and to run as 01 says, as one table: the bytes after the header, the answer of `load` and of `run`,
 -- and the rows, the preamble's first, under 100000 steps. proofs/AllCases.antt proves each. Assumes nothing.
+use Rattle.std.specs.Prelude.{Ok, Err}
+use Rattle.tokens.specs.Refusal.{refusal_at}
 use Rattle.std.specs.Prelude.{ℕ, ◌≡◌, List, [], ◌∷◌, ◌++◌, pos}
-use Rattle.tokens.specs.declared.Outcome.{Outcome}
-use Rattle.tokens.specs.declared.Outcome.TheVariants.{Done, Refused}
+use Rattle.tokens.specs.Refusal.{Outcome}
 use Rattle.tokens.specs.declared.Refusal.TheVariants.{CutOff, AfterEnd}
 use Rattle.tokens.specs.Format.{header}
 use Rattle.machine.specs.Skeleton.{skeleton_of}
@@ -38,11 +39,11 @@ unfoldable pub masters : List Master
 unfolding master row
 masters =
     -- 01, The listing
-    master (160 ∷ 102 ∷ 160 ∷ 106 ∷ 160 ∷ 107 ∷ 160 ∷ 106 ∷ 15 ∷ 167 ∷ 160 ∷ 107 ∷ 160 ∷ 103 ∷ []) (Done 1) (row 1 0 0 0 ∷ row 1 0 1 0 ∷ [])
+    master (160 ∷ 102 ∷ 160 ∷ 106 ∷ 160 ∷ 107 ∷ 160 ∷ 106 ∷ 15 ∷ 167 ∷ 160 ∷ 107 ∷ 160 ∷ 103 ∷ []) (Ok 1) (row 1 0 0 0 ∷ row 1 0 1 0 ∷ [])
     -- 01, The listing: BEGIN alone
-    ∷ master (160 ∷ 102 ∷ []) (Refused CutOff 23) []
+    ∷ master (160 ∷ 102 ∷ []) (Err (refusal_at CutOff 23)) []
     -- R5: a comment after END
-    ∷ master (160 ∷ 102 ∷ 160 ∷ 106 ∷ 160 ∷ 107 ∷ 160 ∷ 103 ∷ 198 ∷ 0 ∷ []) (Refused AfterEnd 29) []
+    ∷ master (160 ∷ 102 ∷ 160 ∷ 106 ∷ 160 ∷ 107 ∷ 160 ∷ 103 ∷ 198 ∷ 0 ∷ []) (Err (refusal_at AfterEnd 29)) []
     -- a preamble that leaves a frame and cells, and three pages
-    ∷ master (160 ∷ 102 ∷ 160 ∷ 106 ∷ 15 ∷ 165 ∷ 15 ∷ 160 ∷ 149 ∷ 193 ∷ 2 ∷ 97 ∷ 98 ∷ 15 ∷ 161 ∷ 149 ∷ 160 ∷ 114 ∷ 160 ∷ 106 ∷ 15 ∷ 160 ∷ 148 ∷ 15 ∷ 161 ∷ 160 ∷ 201 ∷ 160 ∷ 107 ∷ 15 ∷ 162 ∷ 149 ∷ 15 ∷ 161 ∷ 15 ∷ 162 ∷ 160 ∷ 107 ∷ 160 ∷ 106 ∷ 15 ∷ 160 ∷ 148 ∷ 15 ∷ 161 ∷ 148 ∷ 160 ∷ 107 ∷ 160 ∷ 106 ∷ 15 ∷ 162 ∷ 148 ∷ 160 ∷ 231 ∷ 15 ∷ 169 ∷ 15 ∷ 160 ∷ 149 ∷ 193 ∷ 3 ∷ 120 ∷ 121 ∷ 122 ∷ 160 ∷ 107 ∷ 160 ∷ 106 ∷ 15 ∷ 160 ∷ 148 ∷ 15 ∷ 162 ∷ 148 ∷ 160 ∷ 231 ∷ 160 ∷ 107 ∷ 160 ∷ 103 ∷ []) (Done 3) (row 1 0 11 52 ∷ row 1 0 4 0 ∷ row 1 0 11 3 ∷ row 1 0 9 0 ∷ [])
+    ∷ master (160 ∷ 102 ∷ 160 ∷ 106 ∷ 15 ∷ 165 ∷ 15 ∷ 160 ∷ 149 ∷ 193 ∷ 2 ∷ 97 ∷ 98 ∷ 15 ∷ 161 ∷ 149 ∷ 160 ∷ 114 ∷ 160 ∷ 106 ∷ 15 ∷ 160 ∷ 148 ∷ 15 ∷ 161 ∷ 160 ∷ 201 ∷ 160 ∷ 107 ∷ 15 ∷ 162 ∷ 149 ∷ 15 ∷ 161 ∷ 15 ∷ 162 ∷ 160 ∷ 107 ∷ 160 ∷ 106 ∷ 15 ∷ 160 ∷ 148 ∷ 15 ∷ 161 ∷ 148 ∷ 160 ∷ 107 ∷ 160 ∷ 106 ∷ 15 ∷ 162 ∷ 148 ∷ 160 ∷ 231 ∷ 15 ∷ 169 ∷ 15 ∷ 160 ∷ 149 ∷ 193 ∷ 3 ∷ 120 ∷ 121 ∷ 122 ∷ 160 ∷ 107 ∷ 160 ∷ 106 ∷ 15 ∷ 160 ∷ 148 ∷ 15 ∷ 162 ∷ 148 ∷ 160 ∷ 231 ∷ 160 ∷ 107 ∷ 160 ∷ 103 ∷ []) (Ok 3) (row 1 0 11 52 ∷ row 1 0 4 0 ∷ row 1 0 11 3 ∷ row 1 0 9 0 ∷ [])
     ∷ []

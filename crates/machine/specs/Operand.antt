@@ -1,10 +1,11 @@
 -- How an operator reads the values that it pops, and what it gives: one line for each type that 2.4 asks of an operand. Anything else is
 -- a master error (`Fail`). Assumes nothing.
+use Rattle.std.specs.Prelude.{Ok, Err}
 use Rattle.std.specs.Prelude.{ℕ, Bool, cond, ◌&&◌, leb, eqb, ℤ, pos, negsuc}
 use Rattle.std.proofs.Math.Option.{Option, none, some}
 use Rattle.numbers.specs.declared.Number as num
-use Rattle.numbers.specs.declared.Answer.{Answer}
-use Rattle.numbers.specs.declared.Answer.TheVariants.{Is, TooLarge, ByZero}
+use Rattle.numbers.specs.Fraction.{Answer}
+use Rattle.numbers.specs.declared.NoNumber.TheVariants.{TooLarge, ByZero}
 use Rattle.machine.specs.declared.Value.{Value}
 use Rattle.machine.specs.declared.Value.TheVariants.{Number, Identifier, Vector, Operator}
 use Rattle.machine.specs.declared.Effect.{Effect}
@@ -60,6 +61,6 @@ only_if b e = cond b e Fail
 
 -- a number that does not fit the limits, or a division by zero, is a master error
 unfoldable pub answered : Answer → Effect
-answered (Is a) = Gives a
-answered TooLarge = Fail
-answered ByZero = Fail
+answered (Ok a) = Gives a
+answered (Err TooLarge) = Fail
+answered (Err ByZero) = Fail

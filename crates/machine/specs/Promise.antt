@@ -3,12 +3,13 @@
 -- zero. An accepted run leaves scratch zero, row 0 and the rows of existing pages written, later rows untouched. Reprint leaves scratch
 -- zero and writes one row and its sections, with zero after the last value"; "Of a longer table only these first words are used").
 -- In order: what is judged before anything runs; tables; load; run; reprint. Assumes nothing.
+use Rattle.std.specs.Prelude.{Ok, Err}
+use Rattle.tokens.specs.Refusal.{refusal_at}
 use Rattle.std.specs.Prelude.{ℕ, ◌+◌, ◌-◌, ◌*◌, ◌≡◌, Bool, cond, ◌&&◌, List, ◌++◌, eqb, leb, ℤ, pos, nat_abs, length, take, drop, replicate}
 use Rattle.std.specs.Int.Signed.{le_z, lt_z}
 use Rattle.tokens.specs.declared.Refusal.{Refusal}
 use Rattle.tokens.specs.declared.Refusal.TheVariants.{TooLong, TableTooShort, PreambleUnfinished, NoSuchPage, BadAllowance}
-use Rattle.tokens.specs.declared.Outcome.{Outcome}
-use Rattle.tokens.specs.declared.Outcome.TheVariants.{Done, Refused}
+use Rattle.tokens.specs.Refusal.{Outcome}
 use Rattle.tokens.specs.Format.{longest}
 use Rattle.machine.specs.Limits.{most_steps, scratch_size, sections_size, rows_size}
 use Rattle.machine.specs.Skeleton.{Skeleton, sound, refused, skeleton_of}
@@ -64,12 +65,12 @@ scratch_leaves (halted refusal place) scratch = scratch
 
 -- the pages, without the preamble
 unfoldable pub pages_in : Skeleton → Outcome
-pages_in (sound spans) = Done (length spans - 1)
-pages_in (refused refusal place) = Refused refusal place
+pages_in (sound spans) = Ok (length spans - 1)
+pages_in (refused refusal place) = Err (refusal_at refusal place)
 
 -- "answers its page count"
 unfoldable pub load_answer : List ℕ → Outcome
-load_answer s = cond (leb (length s) longest) (pages_in (skeleton_of s)) (Refused TooLong 0)
+load_answer s = cond (leb (length s) longest) (pages_in (skeleton_of s)) (Err (refusal_at TooLong 0))
 
 pub record Loads (s : List ℕ) (r : Outcome) : Type 0 where
   pub answer : r ≡ load_answer s
@@ -81,9 +82,9 @@ run_verdict s allowance scratch rows = admitted s allowance (leb scratch_size (l
 
 -- "answers the page count"
 unfoldable pub run_answer : Verdict → Outcome
-run_answer (accepted bodies) = Done (length bodies - 1)
-run_answer unfinished = Refused PreambleUnfinished 0
-run_answer (halted refusal place) = Refused refusal place
+run_answer (accepted bodies) = Ok (length bodies - 1)
+run_answer unfinished = Err (refusal_at PreambleUnfinished 0)
+run_answer (halted refusal place) = Err (refusal_at refusal place)
 
 unfoldable pub rows_leaves : ℤ → Verdict → List ℕ → List ℕ
 rows_leaves allowance (accepted bodies) rows = over (rows_of (nat_abs allowance) bodies) rows
@@ -108,9 +109,9 @@ reprint_verdict s allowance page scratch rows sections =
 
 -- "answers that number"
 unfoldable pub reprint_answer : ℤ → Verdict → Outcome
-reprint_answer page (accepted bodies) = Done (nat_abs page)
-reprint_answer page unfinished = Refused PreambleUnfinished 0
-reprint_answer page (halted refusal place) = Refused refusal place
+reprint_answer page (accepted bodies) = Ok (nat_abs page)
+reprint_answer page unfinished = Err (refusal_at PreambleUnfinished 0)
+reprint_answer page (halted refusal place) = Err (refusal_at refusal place)
 
 unfoldable pub row_leaves : ℤ → ℤ → Verdict → List ℕ → List ℕ
 row_leaves allowance page (accepted bodies) rows = spliced (16 * nat_abs page) (row_bytes (result_at (nat_abs allowance) bodies (nat_abs page))) rows

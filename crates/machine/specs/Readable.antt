@@ -1,34 +1,35 @@
 -- Bodies that run to their end: literals from the first place on, each found as one, and so each body that a literal holds. The functions of
 -- the engine may take it for granted of bytes that the check has taken (docs/DECISIONS.md, D77); no public call does. Assumes nothing.
+use Rattle.std.specs.Prelude.{Result, Ok, Err}
+use Rattle.tokens.specs.declared.Refused.{Refused}
 use Rattle.std.specs.Prelude.{ℕ, ◌+◌, ◌-◌, ◌<◌, ◌≡◌, List, length}
 use Rattle.numbers.specs.declared.Number as num
 use Rattle.tokens.specs.declared.Read.{Read}
 use Rattle.tokens.specs.declared.Read.TheVariants as read
 use Rattle.tokens.specs.Token.{token_at}
 use Rattle.machine.specs.declared.Role.TheVariants as role
-use Rattle.machine.specs.declared.Went.TheVariants.{Past}
 use Rattle.machine.specs.declared.Literal.TheVariants.{Figure, Name, Text, Plain, WithBody}
 use Rattle.machine.specs.Limits.{most_open}
 use Rattle.machine.specs.Skeleton.{role_of, solid, body_at}
 use Rattle.machine.specs.Literal.{Found, found, found_at}
 
 -- a token that is no comment
-abbrev pub NoComment : Read → Type 0
-NoComment (read.Number value next) = Unit
-NoComment (read.Identifier len next) = Unit
-NoComment (read.String count next) = Unit
-NoComment (read.Operator n next) = Unit
-NoComment (read.Comment next) = ⊥
-NoComment (read.Unread refusal place) = Unit
+abbrev pub NoComment : Result Read Refused → Type 0
+NoComment (Ok (read.Number value next)) = Unit
+NoComment (Ok (read.Identifier len next)) = Unit
+NoComment (Ok (read.String count next)) = Unit
+NoComment (Ok (read.Operator n next)) = Unit
+NoComment (Ok (read.Comment next)) = ⊥
+NoComment (Err w) = Unit
 
 -- the token at the place is a number, an identifier, a string, an operator that is a literal by itself, or one that holds a body, whose
 -- body is read; and this is the literal found
 pub data IsLiteral (b : List ℕ) (at : ℕ) : Found → Type 0 where
-  a_number : (value : num.Number) (next : ℕ) → token_at b at ≡ read.Number value next → IsLiteral b at (found b (Figure value) next)
-  an_identifier : (len next : ℕ) → token_at b at ≡ read.Identifier len next → IsLiteral b at (found b (Name at len) next)
-  a_string : (count next : ℕ) → token_at b at ≡ read.String count next → IsLiteral b at (found b (Text at) next)
-  an_operator : (n next : ℕ) → token_at b at ≡ read.Operator n next → role_of n ≡ role.Plain → IsLiteral b at (found b (Plain n) next)
-  a_holder : (n inner next : ℕ) → token_at b at ≡ read.Operator n inner → role_of n ≡ role.Holds → body_at most_open b inner ≡ Past next
+  a_number : (value : num.Number) (next : ℕ) → token_at b at ≡ Ok (read.Number value next) → IsLiteral b at (found b (Figure value) next)
+  an_identifier : (len next : ℕ) → token_at b at ≡ Ok (read.Identifier len next) → IsLiteral b at (found b (Name at len) next)
+  a_string : (count next : ℕ) → token_at b at ≡ Ok (read.String count next) → IsLiteral b at (found b (Text at) next)
+  an_operator : (n next : ℕ) → token_at b at ≡ Ok (read.Operator n next) → role_of n ≡ role.Plain → IsLiteral b at (found b (Plain n) next)
+  a_holder : (n inner next : ℕ) → token_at b at ≡ Ok (read.Operator n inner) → role_of n ≡ role.Holds → body_at most_open b inner ≡ Ok next
       → IsLiteral b at (found b (WithBody n (solid b inner + 2) (next - 2 - (solid b inner + 2))) next)
 
 -- from the place on, literals up to the end, past comments

@@ -1,4 +1,6 @@
 -- Every body of a master run. In order: the preamble's verdict and the rows; what the pages start from. Assumes nothing.
+use Rattle.std.specs.Prelude.{Ok, Err}
+use Rattle.tokens.specs.Refusal.{refusal_at}
 use Prim.Native.Nat.{ℕ, ◌+◌, ◌≤◌}
 use native.Mathlib.Omega.{arith}
 use mathlib.Core.Path.{◌≡◌, refl, sym, ap, ◌∙◌}
@@ -10,8 +12,7 @@ use borrow.Author.Tests.{ne_eqb}
 use Rattle.table.specs.Slots.{zeroed}
 use Rattle.table.proofs.Stores.{front}
 use Rattle.tokens.specs.declared.Refusal.TheVariants.{PreambleUnfinished}
-use Rattle.tokens.specs.declared.Outcome.{Outcome}
-use Rattle.tokens.specs.declared.Outcome.TheVariants.{Done, Refused}
+use Rattle.tokens.specs.Refusal.{Outcome}
 use Rattle.machine.specs.State.{State}
 use Rattle.machine.specs.Limits.{scratch_size}
 use Rattle.machine.specs.Step.{outcome}
@@ -49,16 +50,16 @@ module _ (s t : List ℕ) (bodies : List (List ℕ)) (a : ℕ) (w : List ℕ) (q
   unfolding rows_from result_at preamble_result
   first_row rows rows₁ f = f w ∙ (rw (ends, append-nil (row_bytes (result_of 0 (preamble_end a (preamble_of bodies))))) refl)
 
-  pub all_unfinished : (o : ℕ) (w' rows : List ℕ) (r : Outcome) → ((v : List ℕ) → o ≡ outcome (abs v q)) → o ≡ 3 → w' ≡ replicate scratch_size 0 → r ≡ Refused PreambleUnfinished 0 → RanAll a bodies w' rows rows r
+  pub all_unfinished : (o : ℕ) (w' rows : List ℕ) (r : Outcome) → ((v : List ℕ) → o ≡ outcome (abs v q)) → o ≡ 3 → w' ≡ replicate scratch_size 0 → r ≡ Err (refusal_at PreambleUnfinished 0) → RanAll a bodies w' rows rows r
   unfolding run_answer rows_leaves
   all_unfinished o w' rows r f e c g = record { answer = rw (ran_out o f e) g; clear = c; rows_are = rw (ran_out o f e) refl }
 
   pub all_ran : (last o : ℕ) (w' rows rows₁ rows' : List ℕ) → length bodies ≡ last + 1 → 8208 ≤ length rows → ((v : List ℕ) → o ≡ outcome (abs v q)) → (o ≡ 3 → ⊥) → ((v : List ℕ) → rows₁ ≡ sets rows 0 (row_bytes (result_of 0 (abs v q))))
       → ((bodies : List (List ℕ)) (b : List ℕ) → Placed s t bodies → length bodies ≡ last + 1 → rows₁ ≡ sets b 0 (rows_from a bodies 0 1) → rows' ≡ sets b 0 (rows_from a bodies 0 (last + 1)))
-      → w' ≡ replicate scratch_size 0 → RanAll a bodies w' rows rows' (Done last)
+      → w' ≡ replicate scratch_size 0 → RanAll a bodies w' rows rows' (Ok last)
   unfolding run_answer rows_leaves rows_of over
   all_ran last o w' rows rows₁ rows' m room f e d g c = record {
-    answer = rw (ran_on o f e, m) (ap Done (omega arith));
+    answer = rw (ran_on o f e, m) (ap Ok (omega arith));
     clear = c;
     rows_are = rw (ran_on o f e, m) (g bodies rows l m (first_row rows rows₁ d) ∙ front rows (rows_from a bodies 0 (last + 1)) (omega (arith, rows_long a bodies 0 (last + 1), l.few)));
   }

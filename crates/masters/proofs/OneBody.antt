@@ -1,4 +1,6 @@
 -- One body of a master reprinted: its result. Assumes nothing.
+use Rattle.std.specs.Prelude.{Ok, Err}
+use Rattle.tokens.specs.Refusal.{refusal_at}
 use Prim.Native.Nat.{ℕ, ◌+◌, ◌*◌, ◌<◌, ◌≤◌}
 use native.Mathlib.Omega.{arith}
 use mathlib.Core.Path.{◌≡◌, refl, ◌∙◌}
@@ -6,8 +8,7 @@ use mathlib.Core.List.{List, append_assoc}
 use lib.ListN.{length, get_or, take, drop, replicate}
 use lib.Seq.{slice, sets, sets-eq}
 use Rattle.tokens.specs.declared.Refusal.TheVariants.{PreambleUnfinished}
-use Rattle.tokens.specs.declared.Outcome.{Outcome}
-use Rattle.tokens.specs.declared.Outcome.TheVariants.{Done, Refused}
+use Rattle.tokens.specs.Refusal.{Outcome}
 use Rattle.machine.specs.Limits.{scratch_size}
 use Rattle.machine.specs.Step.{outcome}
 use Rattle.machine.specs.Page.{Result, preamble_result, result_of, result_at, row_bytes, section_bytes}
@@ -39,7 +40,7 @@ module _ (s t : List ℕ) (bodies : List (List ℕ)) (a : ℕ) (w : List ℕ) (q
   shown_page page w' r h k g x =
       rw (result_at_lem s t a page bodies h k l, ← (result_is (slice (get_or t 0 0) (get_or t 1 0) s) (slice (get_or t (2 * page) 0) (get_or t (2 * page + 1) 0) s) a q.used w w' r (ready_of _ a w q p) g)) x
 
-  pub one_unfinished : (page o : ℕ) (w' rows sections : List ℕ) (r : Outcome) → ((v : List ℕ) → o ≡ outcome (abs v q)) → o ≡ 3 → w' ≡ replicate scratch_size 0 → r ≡ Refused PreambleUnfinished 0
+  pub one_unfinished : (page o : ℕ) (w' rows sections : List ℕ) (r : Outcome) → ((v : List ℕ) → o ≡ outcome (abs v q)) → o ≡ 3 → w' ≡ replicate scratch_size 0 → r ≡ Err (refusal_at PreambleUnfinished 0)
       → Reprinted a page bodies w' rows rows sections sections r
   unfolding reprint_answer row_leaves sections_leaves
   one_unfinished page o w' rows sections r f e c g =
@@ -47,7 +48,7 @@ module _ (s t : List ℕ) (bodies : List (List ℕ)) (a : ℕ) (w : List ℕ) (q
       record { answer = rw u g; clear = c; rows_are = rw u refl; sections_are = rw u refl }
 
   pub one_ran : (page o : ℕ) (w' rows rows' sections sections' : List ℕ) → page < length bodies → 8208 ≤ length rows → ((v : List ℕ) → o ≡ outcome (abs v q)) → (o ≡ 3 → ⊥) → w' ≡ replicate scratch_size 0
-      → ((bodies : List (List ℕ)) → Placed s t bodies → page < length bodies → Shown (result_at a bodies page) page rows rows' sections sections') → Reprinted a page bodies w' rows rows' sections sections' (Done page)
+      → ((bodies : List (List ℕ)) → Placed s t bodies → page < length bodies → Shown (result_at a bodies page) page rows rows' sections sections') → Reprinted a page bodies w' rows rows' sections sections' (Ok page)
   unfolding reprint_answer row_leaves sections_leaves
   one_ran page o w' rows rows' sections sections' h room f e c g =
       let u = ran_on s t bodies a w q l p o f e in

@@ -1,5 +1,7 @@
 -- A byte of the joined data of a sequence, found a piece at a time; two texts compared byte by byte in lower case. In order: the pieces;
 -- the first piece; the bytes by their origin; the comparison; the text of an identifier. Assumes nothing.
+use Rattle.std.specs.Prelude.{Option, Some, None}
+use Rattle.tokens.specs.Joined.{piece_from}
 use mathlib.Core.Path.{◌≡◌, refl, sym, ap, subst, ◌∙◌}
 use mathlib.Core.Bool.{Bool, true, false, cond, ◌&&◌}
 use mathlib.Core.List.{List, [], ◌∷◌, ◌++◌}
@@ -11,7 +13,6 @@ use lib.ListN.{length, get_or, take, drop, length-append, get_or-append, drop_of
 use lib.Seq.{slice, drop-cons, get_or-append-add, get_or-take, get_or-drop}
 use Rattle.numbers.proofs.Cond.{no_left, no_right}
 use Rattle.tokens.specs.declared.Piece.{Piece}
-use Rattle.tokens.specs.declared.Piece.TheVariants.{Data, Missing}
 use Rattle.tokens.specs.Text.{lower_of, lowered}
 use Rattle.tokens.specs.Joined.{Joined, whole, cut_at, piece_at, continued, on_piece, joined_from, joined_at, data_of, continuing}
 use Rattle.tokens.proofs.Pieces.{Inside, inside, joined_data, joined_missing}
@@ -32,10 +33,10 @@ not_cut i place h = omega arith
 abbrev Byte : ℕ → ℕ → Joined → Type 0
 Byte i x J = i < length (data_of J) → get_or (data_of J) i 0 ≡ x
 
-byte_next : (i x at : ℕ) (d : List ℕ) (c : Bool) (w : Piece) (more : ℕ → ℕ → Joined) → get_or d i 0 ≡ x → ((f n : ℕ) → Byte i x (more f n)) → Byte i x (cond c (on_piece w (cut_at at) more) (whole d at))
+byte_next : (i x at : ℕ) (d : List ℕ) (c : Bool) (w : Option Piece) (more : ℕ → ℕ → Joined) → get_or d i 0 ≡ x → ((f n : ℕ) → Byte i x (more f n)) → Byte i x (cond c (on_piece w (cut_at at) more) (whole d at))
 unfolding on_piece data_of
-byte_next i x at d true (Data f n) more e g = g f n
-byte_next i x at d true Missing more e g = λ h. absurd (not_cut i at h)
+byte_next i x at d true (Some p) more e g = g p.start p.len
+byte_next i x at d true None more e g = λ h. absurd (not_cut i at h)
 byte_next i x at d false w more e g = λ h. e
 
 -- what was joined so far stands in front
@@ -70,10 +71,10 @@ module _ {J : Joined} {s : List ℕ} {i k f n left : ℕ} {d : List ℕ} (R : Re
       let known : i < length (data_of (joined_from k s (f + n) (d ++ part))) = subst (λ (K : Joined). i < length (data_of K)) (sym R.rest) has in
       sym (ap (λ (K : Joined). get_or (data_of K) i 0) (sym R.rest) ∙ front k s (f + n) (d ++ part) i _ (omega (arith, size)) at_part known)
 
-  ends_by : (c : Bool) → continued (get_or s (f + n) 0) ≡ c → continuing s (f + n) ≡ Missing → n ≤ left → ⊥
+  ends_by : (c : Bool) → continued (get_or s (f + n) 0) ≡ c → continuing s (f + n) ≡ None → n ≤ left → ⊥
   unfolding on_piece data_of part
   ends_by true e h l =
-      let p : piece_at s (f + n) ≡ Missing = rw e at h in
+      let p : piece_at s (f + n) ≡ None = rw e at h in
       let g : J ≡ cut_at (f + n) = sym R.rest ∙ turn k s (f + n) (d ++ part) R.room ∙ rw (e, p) in
       not_cut i (f + n) (subst (λ (K : Joined). i < length (data_of K)) g has)
   ends_by false e h l =
@@ -82,11 +83,11 @@ module _ {J : Joined} {s : List ℕ} {i k f n left : ℕ} {d : List ℕ} (R : Re
       omega (arith, size, R.place)
 
   -- the byte is not past the last piece
-  pub byte_left : continuing s (f + n) ≡ Missing → n ≤ left → ⊥
+  pub byte_left : continuing s (f + n) ≡ None → n ≤ left → ⊥
   byte_left h l = ends_by (continued (get_or s (f + n) 0)) refl h l
 
-  module _ {f' n' : ℕ} (here : continuing s (f + n) ≡ Data f' n') where
-    goes_by : (c : Bool) → continued (get_or s (f + n) 0) ≡ c → (continued (get_or s (f + n) 0) ≡ true) × (piece_at s (f + n) ≡ Data f' n')
+  module _ {f' n' : ℕ} (here : continuing s (f + n) ≡ Some (piece_from f' n')) where
+    goes_by : (c : Bool) → continued (get_or s (f + n) 0) ≡ c → (continued (get_or s (f + n) 0) ≡ true) × (piece_at s (f + n) ≡ Some (piece_from f' n'))
     goes_by true e = (e, rw e at here)
     goes_by false e = absurd (let p = rw e at here in let z : ◌≡◌ {A = ℕ} 0 1 = cc in omega arith)
 
@@ -110,10 +111,10 @@ module _ (s : List ℕ) (at i : ℕ) (has : i < length (data_of (joined_at s at)
   pub byte_inside : length s ≤ at → ⊥
   byte_inside h = omega (arith, none_past s at h)
 
-  pub byte_there : piece_at s at ≡ Missing → ⊥
+  pub byte_there : piece_at s at ≡ None → ⊥
   byte_there p = not_cut i at (subst (λ (K : Joined). i < length (data_of K)) (joined_missing s at p) has)
 
-  pub byte_first : {f n : ℕ} → piece_at s at ≡ Data f n → Reached (joined_at s at) s i (length s) f n i []
+  pub byte_first : {f n : ℕ} → piece_at s at ≡ Some (piece_from f n) → Reached (joined_at s at) s i (length s) f n i []
   byte_first {f} {n} p = record {
     within = (subst (Inside (length s) at) p (inside s at)).1;
     room = omega arith;

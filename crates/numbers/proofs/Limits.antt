@@ -1,4 +1,5 @@
 -- A quotient in lowest terms and its limits, as the code computes them from signs and sizes. Assumes nothing.
+use Rattle.std.specs.Prelude.{Ok, Err}
 use mathlib.Core.Path.{◌≡◌}
 use mathlib.Core.Bool.{Bool, xor, and-false}
 use Prim.Native.Nat.{ℕ, ◌/◌, ◌<◌, ◌≤◌}
@@ -7,7 +8,7 @@ use native.Mathlib.Omega.{arith}
 use lib.Dec.{leb}
 use lib.IntN.{nat_abs}
 use borrow.Author.Tests.{eq-eqb, ne_eqb, le-leb, lt-leb}
-use Rattle.numbers.specs.declared.Answer.TheVariants.{Is, TooLarge, ByZero}
+use Rattle.numbers.specs.declared.NoNumber.TheVariants.{TooLarge, ByZero}
 use Rattle.numbers.specs.Gcd.{gcd_of}
 use Rattle.numbers.specs.Whole.{signed}
 use Rattle.numbers.specs.Fraction.{most, limited, ratio_of}
@@ -15,20 +16,20 @@ use Rattle.numbers.proofs.Divisor.{gcd_one}
 use Rattle.numbers.proofs.Signs.{abs_signed, signed_by_lem, signed_quot}
 
 module _ (s : Bool) (n d : ℕ) where
-  pub size_over : most < n → TooLarge ≡ limited (signed s n) d
+  pub size_over : most < n → Err TooLarge ≡ limited (signed s n) d
   unfolding limited
   size_over h = rw (abs_signed s n, lt-leb n most h)
 
-  pub den_over : most < d → TooLarge ≡ limited (signed s n) d
+  pub den_over : most < d → Err TooLarge ≡ limited (signed s n) d
   unfolding limited
   den_over h = rw (lt-leb d most h, and-false (leb (nat_abs (signed s n)) most))
 
-  pub inside : n ≤ most → d ≤ most → Is (record { num = signed s n; den = d }) ≡ limited (signed s n) d
+  pub inside : n ≤ most → d ≤ most → Ok (record { num = signed s n; den = d }) ≡ limited (signed s n) d
   unfolding limited
   inside h k = rw (abs_signed s n, le-leb n most h, le-leb d most k)
 
 module _ (s t : Bool) (n d : ℕ) where
-  pub ratio_by_zero : d ≡ 0 → ByZero ≡ ratio_of (signed s n) (signed t d)
+  pub ratio_by_zero : d ≡ 0 → Err ByZero ≡ ratio_of (signed s n) (signed t d)
   unfolding ratio_of
   ratio_by_zero h = rw (abs_signed t d, eq-eqb d 0 h)
 

@@ -1,5 +1,6 @@
 -- What the answered quotients are. In order: every whole number has a sign and a size; of a quotient that is answered, that it is
 -- a number and that it is n / d; a number is the quotient of its parts; an operation's answer is a quotient, or none. Assumes nothing.
+use Rattle.std.specs.Prelude.{Ok, Err}
 use mathlib.Core.Path.{◌≡◌, refl, sym, ap, ◌∙◌}
 use mathlib.Core.Bool.{Bool, true, false, xor, cond, ◌&&◌}
 use mathlib.Core.Logic.{⊎_elim}
@@ -11,7 +12,7 @@ use lib.IntN.{ℤ, pos, negsuc, nat_abs, ◌-ℤ◌, ◌*ℤ◌}
 use lib.Signed.{quot_z}
 use borrow.Author.Tests.{eq-eqb, ne_eqb, le-leb, leb-true, eqb-true}
 use Rattle.numbers.specs.declared.Number.{Number}
-use Rattle.numbers.specs.declared.Answer.TheVariants.{Is, TooLarge, ByZero}
+use Rattle.numbers.specs.declared.NoNumber.TheVariants.{TooLarge, ByZero}
 use Rattle.numbers.specs.Gcd.{gcd_of}
 use Rattle.numbers.specs.Whole.{signed, signed_by}
 use Rattle.numbers.specs.Fraction.{most, limited, ratio_of, is_fraction, is_number}
@@ -30,11 +31,11 @@ unfolding signed below
 signed_is (pos n) = refl
 signed_is (negsuc n) = refl
 
-kept : (t : Bool) (x a : Number) → cond t (Is x) TooLarge ≡ Is a → (t ≡ true) × (x ≡ a)
+kept : (t : Bool) (x a : Number) → cond t (Ok x) (Err TooLarge) ≡ Ok a → (t ≡ true) × (x ≡ a)
 kept true x a e = (refl, cc)
 kept false x a e = absurd (let z : ◌≡◌ {A = ℕ} 0 1 = cc in omega arith)
 
-within : (z : ℤ) (d : ℕ) (a : Number) → limited z d ≡ Is a → (nat_abs z ≤ most) × (d ≤ most) × (record { num = z; den = d } ≡ a)
+within : (z : ℤ) (d : ℕ) (a : Number) → limited z d ≡ Ok a → (nat_abs z ≤ most) × (d ≤ most) × (record { num = z; den = d } ≡ a)
 unfolding limited
 within z d a e =
     let k = kept (leb (nat_abs z) most && leb d most) (record { num = z; den = d }) a e in
@@ -49,7 +50,7 @@ crossed : (n d p q g : ℕ) → n ≡ p * g → d ≡ q * g → p * d ≡ n * q
 crossed n d p q g e f = rw (e, f) (sym (mul_assoc p q g) ∙ mul_right_comm p q g)
 
 -- a quotient that is answered, by signs and sizes
-module _ (s t : Bool) (n d : ℕ) (a : Number) (e : ratio_of (signed s n) (signed t d) ≡ Is a) where
+module _ (s t : Bool) (n d : ℕ) (a : Number) (e : ratio_of (signed s n) (signed t d) ≡ Ok a) where
   not_zero : 0 < d
   not_zero = ⊎_elim (λ z. absurd (let i = ratio_by_zero s t n d z in let z : ◌≡◌ {A = ℕ} 0 1 = cc in omega arith)) (λ p. p) (eq-zero-or-pos d)
 
@@ -71,8 +72,8 @@ module _ (s t : Bool) (n d : ℕ) (a : Number) (e : ratio_of (signed s n) (signe
       rw (← parts.2) (sym (signed_mul (xor s t) t p d) ∙ rw (unlike_last s t, crossed n d p q (gcd_of n d) (left_exact n d not_zero) (right_exact n d not_zero)) (signed_mul s false n q))
 
 -- any quotient
-module _ (n d : ℤ) (a : Number) (e : ratio_of n d ≡ Is a) where
-  signs : ratio_of (signed (below n) (nat_abs n)) (signed (below d) (nat_abs d)) ≡ Is a
+module _ (n d : ℤ) (a : Number) (e : ratio_of n d ≡ Ok a) where
+  signs : ratio_of (signed (below n) (nat_abs n)) (signed (below d) (nat_abs d)) ≡ Ok a
   signs = rw (← signed_is n, ← signed_is d) e
 
   pub quotient_number : is_number a ≡ true
@@ -93,21 +94,21 @@ fraction_is n d e =
     let q = both (leb d most) (eqb (gcd_of n d) 1) p.1 in
     (leb-true n most m.0, leb-true 1 d p.0, leb-true d most q.0, eqb-true (gcd_of n d) 1 q.1)
 
-pub number_quotient : (a : Number) → is_number a ≡ true → ratio_of a.num (pos a.den) ≡ Is a
+pub number_quotient : (a : Number) → is_number a ≡ true → ratio_of a.num (pos a.den) ≡ Ok a
 unfolding ratio_of limited signed_by
 number_quotient a e =
     let f = fraction_is (nat_abs a.num) a.den e in
     rw (ne_eqb a.den 0 (λ z. omega arith), f.3, quot_one a.num, div-one a.den, le-leb (nat_abs a.num) most f.0, le-leb a.den most f.2)
 
 -- a quotient, or none behind a test
-ratio_or_none : (t : Bool) (n d : ℤ) (a : Number) → cond t ByZero (ratio_of n d) ≡ Is a → is_number a ≡ true
+ratio_or_none : (t : Bool) (n d : ℤ) (a : Number) → cond t (Err ByZero) (ratio_of n d) ≡ Ok a → is_number a ≡ true
 ratio_or_none true n d a e = absurd (let z : ◌≡◌ {A = ℕ} 0 1 = cc in omega arith)
 ratio_or_none false n d a e = quotient_number n d a e
 
-pub whole_number : (a : Number) (z : ℤ) (c : Number) → whole_from a z ≡ Is c → is_number c ≡ true
+pub whole_number : (a : Number) (z : ℤ) (c : Number) → whole_from a z ≡ Ok c → is_number c ≡ true
 unfolding whole_from
 whole_number a z = ratio_or_none (eqb a.den 0) z (pos 1)
 
-pub rest_number : (a b : Number) (q : ℤ) (c : Number) → less_times a b q ≡ Is c → is_number c ≡ true
+pub rest_number : (a b : Number) (q : ℤ) (c : Number) → less_times a b q ≡ Ok c → is_number c ≡ true
 unfolding less_times
 rest_number a b q = ratio_or_none (eqb (nat_abs (over b a)) 0) (over a b -ℤ over b a *ℤ q) (common a b)

@@ -1,13 +1,13 @@
 -- What a reader needs to know of the definitions beyond the functions' contracts. In order: the greatest common divisor; rounding
 -- down; numbers and quotients; the operations' answers; worked values. Assumes nothing.
+use Rattle.std.specs.Prelude.{Ok}
 use mathlib.Core.Path.{◌≡◌, refl}
 use mathlib.Core.Bool.{true}
 use Prim.Native.Nat.{ℕ, ◌*◌, ◌<◌}
 use lib.IntN.{ℤ, pos, ◌+ℤ◌, ◌*ℤ◌}
 use lib.Signed.{◌≤ℤ◌, ◌<ℤ◌}
 use Rattle.numbers.specs.declared.Number.{Number}
-use Rattle.numbers.specs.declared.Answer.{Answer}
-use Rattle.numbers.specs.declared.Answer.TheVariants.{Is}
+use Rattle.numbers.specs.Fraction.{Answer}
 use Rattle.numbers.specs.Each.{Each, ◌&◌}
 use Rattle.numbers.specs.Gcd.{gcd_turns, gcd_of}
 use Rattle.numbers.specs.Whole.{signed_by, floor_by, floor_quotient, trunc_quotient}
@@ -35,20 +35,20 @@ pub floor_is : (n : ℤ) (d : ℕ) → 0 < d → ((floor_by n d *ℤ pos d) ≤�
 floor_is n d h = (floor_below n d h, floor_greatest n d h)
 
 -- a number is the quotient of its numerator and its denominator
-pub ratio_number : (a : Number) → is_number a ≡ true → ratio_of a.num (pos a.den) ≡ Is a
+pub ratio_number : (a : Number) → is_number a ≡ true → ratio_of a.num (pos a.den) ≡ Ok a
 ratio_number a e = number_quotient a e
 
 -- a quotient that is answered is a number: in lowest terms and inside the limits
-pub number_ratio : (n d : ℤ) (a : Number) → ratio_of n d ≡ Is a → is_number a ≡ true
+pub number_ratio : (n d : ℤ) (a : Number) → ratio_of n d ≡ Ok a → is_number a ≡ true
 number_ratio n d a e = quotient_number n d a e
 
 -- and it is n / d
-pub ratio_exact : (n d : ℤ) (a : Number) → ratio_of n d ≡ Is a → a.num *ℤ d ≡ n *ℤ pos a.den
+pub ratio_exact : (n d : ℤ) (a : Number) → ratio_of n d ≡ Ok a → a.num *ℤ d ≡ n *ℤ pos a.den
 ratio_exact n d a e = quotient_exact n d a e
 
 -- a number that is answered is a number of document 01
 abbrev pub AnswersNumber : Answer → Type 0
-AnswersNumber r = (c : Number) → r ≡ Is c → is_number c ≡ true
+AnswersNumber r = (c : Number) → r ≡ Ok c → is_number c ≡ true
 
 -- every operation answers with such a number, or with none
 pub answers_number : (a b : Number) →

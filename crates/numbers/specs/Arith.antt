@@ -2,13 +2,14 @@
 -- a + b = (n e + m d) / (d e), and so on. A number has a denominator of at least 1; of a denominator 0, which no number has,
 -- the answer is a division by zero, and that of DIV by it may be 0. In order: the two numerators over the common denominator;
 -- sum and difference; product and quotient; negative and size; the four roundings; MOD and REM; the order. Assumes nothing.
+use Rattle.std.specs.Prelude.{Err}
 use Rattle.std.specs.Prelude.{◌*◌, cond, eqb, ℤ, pos, neg_ℤ, nat_abs, ◌+ℤ◌, ◌-ℤ◌, ◌*ℤ◌}
 use Rattle.std.specs.Int.Signed.{lt_z}
 use Rattle.numbers.specs.declared.Number.{Number}
-use Rattle.numbers.specs.declared.Answer.{Answer}
-use Rattle.numbers.specs.declared.Answer.TheVariants.{ByZero}
-use Rattle.numbers.specs.declared.Order.{Order}
-use Rattle.numbers.specs.declared.Order.TheVariants.{Less, Equal, Greater}
+use Rattle.numbers.specs.Fraction.{Answer}
+use Rattle.numbers.specs.declared.NoNumber.TheVariants.{ByZero}
+use Rattle.std.specs.declared.cmp.Ordering.{Ordering}
+use Rattle.std.specs.declared.cmp.Ordering.TheVariants.{Less, Equal, Greater}
 use Rattle.numbers.specs.Whole.{floor_quotient, trunc_quotient}
 use Rattle.numbers.specs.Fraction.{ratio_of}
 
@@ -43,7 +44,7 @@ size_of a = ratio_of (pos (nat_abs a.num)) (pos a.den)
 
 -- the whole number z, made of a
 unfoldable pub whole_from : Number → ℤ → Answer
-whole_from a z = cond (eqb a.den 0) ByZero (ratio_of z (pos 1))
+whole_from a z = cond (eqb a.den 0) (Err ByZero) (ratio_of z (pos 1))
 
 -- FLOOR: "the greatest integer ≤ a". CEILING: "the least integer ≥ a", which is minus the floor of -a
 unfoldable pub floor_of : Number → Answer
@@ -61,7 +62,7 @@ round_of a = whole_from a (floor_quotient (a.num *ℤ pos 2 +ℤ pos a.den) (pos
 
 -- a - b × q, of a whole number q; "b ≠ 0 is required"
 unfoldable pub less_times : Number → Number → ℤ → Answer
-less_times a b q = cond (eqb (nat_abs (over b a)) 0) ByZero (ratio_of (over a b -ℤ over b a *ℤ q) (common a b))
+less_times a b q = cond (eqb (nat_abs (over b a)) 0) (Err ByZero) (ratio_of (over a b -ℤ over b a *ℤ q) (common a b))
 
 -- MOD: "c = a - b × FLOOR(a/b)". REM: "c = a - b × TRUNC(a/b)"; a/b is (n e) / (m d)
 unfoldable pub mod_of : Number → Number → Answer
@@ -71,5 +72,5 @@ unfoldable pub rem_of : Number → Number → Answer
 rem_of a b = less_times a b (trunc_quotient (over a b) (over b a))
 
 -- which of the two is the larger: EQ, GT and GE of 2.4.8 ask this
-unfoldable pub order_of : Number → Number → Order
+unfoldable pub order_of : Number → Number → Ordering
 order_of a b = cond (lt_z (over a b) (over b a)) Less (cond (lt_z (over b a) (over a b)) Greater Equal)

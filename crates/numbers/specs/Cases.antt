@@ -1,8 +1,9 @@
 -- Worked values of the operations: what is computed, beside what it is. Assumes nothing.
+use Rattle.std.specs.Prelude.{Ok, Err}
 use Rattle.std.specs.Prelude.{ℕ, List, [], ◌∷◌, pos, neg_ℤ}
 use Rattle.numbers.specs.declared.Number.{Number}
-use Rattle.numbers.specs.declared.Answer.{Answer}
-use Rattle.numbers.specs.declared.Answer.TheVariants.{Is, TooLarge, ByZero}
+use Rattle.numbers.specs.Fraction.{Answer}
+use Rattle.numbers.specs.declared.NoNumber.TheVariants.{TooLarge, ByZero}
 use Rattle.numbers.specs.Fraction.{ratio_of}
 use Rattle.numbers.specs.Arith.{sum_of, quotient_of, floor_of, ceiling_of, trunc_of, round_of, mod_of, rem_of}
 
@@ -22,17 +23,17 @@ row r a = record { computed = r; answer = a }
 
 abbrev pub cases : List Case
 cases =
-    row (trunc_of (fraction 7 2)) (Is (fraction 3 1))
-    ∷ row (trunc_of (minus 7 2)) (Is (minus 3 1))
-    ∷ row (floor_of (minus 7 2)) (Is (minus 4 1))
-    ∷ row (ceiling_of (minus 7 2)) (Is (minus 3 1))
-    ∷ row (round_of (minus 7 2)) (Is (minus 3 1))
-    ∷ row (round_of (fraction 2147483647 1)) (Is (fraction 2147483647 1))
-    ∷ row (round_of (fraction 1 2147483647)) (Is (fraction 0 1))
-    ∷ row (sum_of (fraction 2147483647 1) (fraction 1 1)) TooLarge
-    ∷ row (sum_of (fraction 1 3) (fraction 1 6)) (Is (fraction 1 2))
-    ∷ row (mod_of (fraction 7 1) (minus 2 1)) (Is (minus 1 1))
-    ∷ row (rem_of (minus 7 1) (fraction 2 1)) (Is (minus 1 1))
-    ∷ row (quotient_of (fraction 1 1) (fraction 0 1)) ByZero
-    ∷ row (ratio_of (pos 6) (neg_ℤ (pos 4))) (Is (minus 3 2))
+    row (trunc_of (fraction 7 2)) (Ok (fraction 3 1))
+    ∷ row (trunc_of (minus 7 2)) (Ok (minus 3 1))
+    ∷ row (floor_of (minus 7 2)) (Ok (minus 4 1))
+    ∷ row (ceiling_of (minus 7 2)) (Ok (minus 3 1))
+    ∷ row (round_of (minus 7 2)) (Ok (minus 3 1))
+    ∷ row (round_of (fraction 2147483647 1)) (Ok (fraction 2147483647 1))
+    ∷ row (round_of (fraction 1 2147483647)) (Ok (fraction 0 1))
+    ∷ row (sum_of (fraction 2147483647 1) (fraction 1 1)) (Err TooLarge)
+    ∷ row (sum_of (fraction 1 3) (fraction 1 6)) (Ok (fraction 1 2))
+    ∷ row (mod_of (fraction 7 1) (minus 2 1)) (Ok (minus 1 1))
+    ∷ row (rem_of (minus 7 1) (fraction 2 1)) (Ok (minus 1 1))
+    ∷ row (quotient_of (fraction 1 1) (fraction 0 1)) (Err ByZero)
+    ∷ row (ratio_of (pos 6) (neg_ℤ (pos 4))) (Ok (minus 3 2))
     ∷ []

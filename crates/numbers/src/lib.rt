@@ -14,19 +14,11 @@ pub struct Number {
     pub den: u32,
 }
 
-// The number; or it does not fit the limits; or it is a division by zero.
-#[derive(Clone, Copy)]
-pub enum Answer {
-    Is(Number),
+// Why an operation gives no number: it does not fit the limits, or it is a division by zero.
+#[derive(Clone, Copy, Debug, PartialEq, Eq)]
+pub enum NoNumber {
     TooLarge,
     ByZero,
-}
-
-#[derive(Clone, Copy)]
-pub enum Order {
-    Less,
-    Equal,
-    Greater,
 }
 
 // A whole number between the steps of an operation: its size, and whether it lies below zero.

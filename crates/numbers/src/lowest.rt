@@ -4,7 +4,7 @@ ghost use Rattle.std.specs.Prelude.{◌≡◌, ◌≤◌};
 ghost use Rattle.numbers.specs.Whole.{signed, whole_of};
 ghost use Rattle.numbers.specs.Fraction.{most, limited, ratio_of, is_fraction};
 
-use crate::{Answer, Number, Whole, euclid, wholes};
+use crate::{NoNumber, Number, Whole, euclid, wholes};
 
 // The largest numerator in size, and the largest denominator.
 const MOST: u64 = 2147483647;
@@ -18,27 +18,27 @@ fn short_number(below: bool, size: u64) -> i32
 }
 
 // A fraction held against the limits.
-fn inside_limits(below: bool, size: u64, den: u64) -> Answer
+fn inside_limits(below: bool, size: u64, den: u64) -> Result<Number, NoNumber>
     ensures { result ≡ limited (signed below size) den }
 {
     if MOST < size {
-        return Answer::TooLarge;
+        return Err(NoNumber::TooLarge);
     }
     if MOST < den {
-        return Answer::TooLarge;
+        return Err(NoNumber::TooLarge);
     }
-    Answer::Is(Number {
+    Ok(Number {
         num: short_number(below, size),
         den: den as u32,
     })
 }
 
 // n / d of two whole numbers. Over 1 the quotient stands in lowest terms.
-pub fn ratio_of(n: Whole, d: Whole) -> Answer
+pub fn ratio_of(n: Whole, d: Whole) -> Result<Number, NoNumber>
     ensures { result ≡ ratio_of (whole_of n) (whole_of d) }
 {
     if d.size == 0 {
-        return Answer::ByZero;
+        return Err(NoNumber::ByZero);
     }
     if d.size == 1 {
         return inside_limits(wholes::unlike(n.below, d.below), n.size, 1);
@@ -48,7 +48,7 @@ pub fn ratio_of(n: Whole, d: Whole) -> Answer
 }
 
 // n / d of two machine numbers.
-pub fn ratio(n: i64, d: i64) -> Answer
+pub fn ratio(n: i64, d: i64) -> Result<Number, NoNumber>
     ensures { result ≡ ratio_of n d }
 {
     ratio_of(wholes::of_signed(n), wholes::of_signed(d))

@@ -1,4 +1,6 @@
 -- Bytes by origin, and what is read of those that are not there. Assumes nothing.
+use Rattle.std.specs.Prelude.{Result, Ok, Err}
+use Rattle.tokens.specs.declared.Refused.{Refused}
 use Prim.Native.Nat.{ℕ, zero, suc, ◌<◌, ◌≤◌}
 use native.Mathlib.Omega.{arith}
 use mathlib.Core.Path.{◌≡◌, refl}
@@ -11,8 +13,6 @@ use Rattle.tokens.specs.Format.{longest}
 use Rattle.tokens.specs.Token.{token_at}
 use Rattle.machine.specs.declared.Role.{Role}
 use Rattle.machine.specs.declared.Role.TheVariants as role
-use Rattle.machine.specs.declared.Went.{Went}
-use Rattle.machine.specs.declared.Went.TheVariants.{Past, Stop}
 use Rattle.machine.specs.declared.Literal.TheVariants.{Plain}
 use Rattle.machine.specs.Limits.{most_open}
 use Rattle.machine.specs.Skeleton.{role_of, solid, body_at}
@@ -51,10 +51,10 @@ solid_fits s at m h l = ⊎_elim (λ e. omega arith) (λ k. omega arith) (commen
 
 -- ---- where the next literal stands is inside the bytes
 
-went_next : (b : List ℕ) (n start : ℕ) (w : Went) → WentIn (length b) 0 w → (holding_by b n start w).next ≤ length b
+went_next : (b : List ℕ) (n start : ℕ) (w : Result ℕ Refused) → WentIn (length b) 0 w → (holding_by b n start w).next ≤ length b
 unfolding holding_by nothing_at
-went_next b n start (Past next) h = solid_inside b next h.1
-went_next b n start (Stop r p) h = omega arith
+went_next b n start (Ok next) h = solid_inside b next h.1
+went_next b n start (Err w) h = omega arith
 
 role_next : (b : List ℕ) (n next : ℕ) (r : Role) → next ≤ length b → (operator_by r b n next).next ≤ length b
 unfolding operator_by holding_at nothing_at
@@ -63,14 +63,14 @@ role_next b n next role.Holds h = went_next b n _ (body_at most_open b next) (we
 role_next b n next role.Closes h = omega arith
 role_next b n next role.Barred h = omega arith
 
-token_next : (b : List ℕ) (at : ℕ) (t : Read) → EndsIn (length b) at t → (found_by b at t).next ≤ length b
+token_next : (b : List ℕ) (at : ℕ) (t : Result Read Refused) → EndsIn (length b) at t → (found_by b at t).next ≤ length b
 unfolding found_by nothing_at
-token_next b at (read.Number value next) h = solid_inside b next h.1
-token_next b at (read.Identifier len next) h = solid_inside b next h.1
-token_next b at (read.String count next) h = solid_inside b next h.1
-token_next b at (read.Operator n next) h = role_next b n next (role_of n) h.1
-token_next b at (read.Comment next) h = omega arith
-token_next b at (read.Unread r p) h = omega arith
+token_next b at (Ok (read.Number value next)) h = solid_inside b next h.1
+token_next b at (Ok (read.Identifier len next)) h = solid_inside b next h.1
+token_next b at (Ok (read.String count next)) h = solid_inside b next h.1
+token_next b at (Ok (read.Operator n next)) h = role_next b n next (role_of n) h.1
+token_next b at (Ok (read.Comment next)) h = omega arith
+token_next b at (Err w) h = omega arith
 
 pub next_inside : (b : List ℕ) (at : ℕ) → (found_at b at).next ≤ length b
 unfolding found_at

@@ -9,7 +9,7 @@ ghost use Rattle.tokens.specs.Inner.{rule_of, room_of, added, Fitting, FittingSu
 use crate::text::all_obey;
 use crate::values::value_after;
 use tokens::bits::low5;
-use tokens::{Gathered, Piece, Rule, Summary};
+use tokens::{Gathered, Piece, Refusal, Refused, Rule, Summary};
 
 fn length_bytes(b: u8) -> usize
     ensures { result ≡ length_bytes b }
@@ -17,21 +17,21 @@ fn length_bytes(b: u8) -> usize
     if b < 224 { 1 } else { 3 }
 }
 
-// Where the data of the sequence token at `at` lie.
-pub fn piece_at(s: &[u8], at: usize) -> Piece
+// Where the data of the sequence token at `at` lie, if it is not cut off.
+pub fn piece_at(s: &[u8], at: usize) -> Option<Piece>
     requires { at < length s.now }
     ensures { result ≡ piece_at s.now at }
 {
     let k = length_bytes(s[at]);
     let start = at + 1 + k;
     if s.len() < start {
-        return Piece::Missing;
+        return None;
     }
     let n = value_after(0, 0, s, at + 1, k) as usize;
     if s.len() - start < n {
-        return Piece::Missing;
+        return None;
     }
-    Piece::Data { start, len: n }
+    Some(Piece { start, len: n })
 }
 
 pub fn is_continued(b: u8) -> bool
@@ -54,14 +54,14 @@ pub fn is_continued_at(s: &[u8], at: usize) -> bool
 }
 
 // The data of the continued token at `at`, if one is there and the input has them.
-pub fn next_piece(s: &[u8], at: usize) -> Piece
+pub fn next_piece(s: &[u8], at: usize) -> Option<Piece>
     requires { at < length s.now }
     ensures { result ≡ continuing s.now at }
 {
     if is_continued(s[at]) {
         return piece_at(s, at);
     }
-    Piece::Missing
+    None
 }
 
 fn rule_of(k: u8) -> Rule
@@ -150,7 +150,7 @@ fn take_piece(k: u8, g: Summary, s: &[u8], start: usize, len: usize) -> Summary
 }
 
 // The data of a sequence of type `k` whose own data are `len` bytes from `start` on, with all that continues it.
-pub fn gather(k: u8, s: &[u8], start: usize, len: usize) -> Gathered
+pub fn gather(k: u8, s: &[u8], start: usize, len: usize) -> Result<Gathered, Refused>
     requires { start + len ≤ length s.now }
     ensures { (result ≡ gathered_of k (joined_from (length s.now) s.now (start + len) (slice start (start + len) s.now))) × FittingSum result }
 {
@@ -169,22 +169,15 @@ pub fn gather(k: u8, s: &[u8], start: usize, len: usize) -> Gathered
     let mut at = start + len;
     while at < s.len() {
         if !is_continued(s[at]) {
-            return Gathered::Whole { sum, next: at };
+            return Ok(Gathered { sum, next: at });
         }
-        match piece_at(s, at) {
-            Piece::Missing => {
-                return Gathered::Broken { place: at };
-            }
-            Piece::Data {
-                start: from,
-                len: more,
-            } => {
-                sum = take_piece(k, sum, s, from, more);
-                at = from + more;
-            }
-        }
+        let Some(piece) = piece_at(s, at) else {
+            return Err(Refusal::CutOff.met_at(at));
+        };
+        sum = take_piece(k, sum, s, piece.start, piece.len);
+        at = piece.start + piece.len;
     }
-    Gathered::Whole { sum, next: at }
+    Ok(Gathered { sum, next: at })
 }
 
 // How many bytes of data the sequence token at `at` has, with all that continues it; 0 where they are cut off. The type 31 has no rule.
@@ -194,22 +187,14 @@ pub fn data_size(s: &[u8], at: usize) -> usize
     if at >= s.len() {
         return 0;
     }
-    match piece_at(s, at) {
-        Piece::Missing => {
-            return 0;
-        }
-        Piece::Data { start, len } => {
-            if !is_continued_at(s, start + len) {
-                return len;
-            }
-            match gather(31, s, start, len) {
-                Gathered::Broken { place } => {
-                    return 0;
-                }
-                Gathered::Whole { sum, next } => {
-                    return sum.len;
-                }
-            }
-        }
+    let Some(Piece { start, len }) = piece_at(s, at) else {
+        return 0;
+    };
+    if !is_continued_at(s, start + len) {
+        return len;
+    }
+    match gather(31, s, start, len) {
+        Ok(whole) => whole.sum.len,
+        Err(_) => 0,
     }
 }

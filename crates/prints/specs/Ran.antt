@@ -3,7 +3,7 @@ use Rattle.std.specs.Prelude.{ℕ, ◌+◌, ◌*◌, ◌<◌, ◌≤◌, ◌≡�
 use Rattle.std.proofs.lemmas.List.Edits.{sets}
 use Rattle.table.specs.Slots.{slots}
 use Rattle.machine.specs.Step.{run, begin}
-use Rattle.tokens.specs.declared.Outcome.{Outcome}
+use Rattle.tokens.specs.Refusal.{Outcome}
 use Rattle.machine.specs.Limits.{most_pages, scratch_size, most_cells}
 use Rattle.machine.specs.Promise.{finished, over, run_answer, rows_leaves, reprint_answer, row_leaves, sections_leaves}
 use Rattle.machine.specs.Readable.{Whole}

@@ -2,44 +2,30 @@
 // joined data.
 ghost use Rattle.std.specs.Prelude.{◌≡◌, ◌+◌, ◌*◌, ◌/◌, ◌^◌, ◌<◌, ◌≤◌, eqb, leb, cond, ◌&&◌, pos};
 ghost use Rattle.numbers.specs.Fraction.{ratio_of};
+ghost use Rattle.tokens.specs.Refusal.{refusal_at};
 ghost use Rattle.tokens.specs.Format.{longest_name, comment_type, continued_type};
 ghost use Rattle.tokens.specs.Bytes.{signed_of};
 ghost use Rattle.tokens.specs.Text.{is_letter};
 ghost use Rattle.tokens.specs.Token.{number_read, integer_size, rational_size, ruled};
 ghost use Rattle.tokens.specs.Inner.{Fitting, judged_by, rational_by};
 
+use numbers::{NoNumber, Number};
 use pieces::text::is_letter;
 use pieces::values::{extended, high_half, integer_size, low_half, name_size, rational_size};
-use tokens::{Read, Refusal, Summary};
-
-pub fn bad_data(at: usize) -> Read
-    ensures { result ≡ Read.Unread Refusal.BadData at }
-{
-    Read::Unread {
-        refusal: Refusal::BadData,
-        place: at,
-    }
-}
+use tokens::{Read, Refusal, Refused, Summary};
 
 // A number's token, or the refusal where there is no such number.
-fn number_read(at: usize, next: usize, answer: numbers::Answer) -> Read
+fn number_read(at: usize, next: usize, answer: Result<Number, NoNumber>) -> Result<Read, Refused>
     ensures { result ≡ number_read at next answer }
 {
     match answer {
-        numbers::Answer::Is(value) => {
-            return Read::Number { value, next };
-        }
-        numbers::Answer::TooLarge => {
-            return bad_data(at);
-        }
-        numbers::Answer::ByZero => {
-            return bad_data(at);
-        }
+        Ok(value) => Ok(Read::Number { value, next }),
+        Err(_) => Err(Refusal::BadData.met_at(at)),
     }
 }
 
 // The integer of `len` bytes of value `v`.
-pub fn integer(at: usize, v: u64, len: usize, next: usize) -> Read
+pub fn integer(at: usize, v: u64, len: usize, next: usize) -> Result<Read, Refused>
     requires { (len ≤ 4) × (v < 2 ^ (8 * len)) }
     ensures { result ≡ number_read at next (ratio_of (signed_of len v) (pos 1)) }
 {
@@ -47,7 +33,7 @@ pub fn integer(at: usize, v: u64, len: usize, next: usize) -> Read
 }
 
 // The rational of value `v` in two halves of `h` bytes.
-pub fn rational(at: usize, v: u64, h: usize, next: usize) -> Read
+pub fn rational(at: usize, v: u64, h: usize, next: usize) -> Result<Read, Refused>
     requires { (h ≤ 4) × (v < 2 ^ (8 * h + 8 * h)) }
     ensures { result ≡ number_read at next (rational_by h v) }
 {
@@ -59,62 +45,56 @@ pub fn rational(at: usize, v: u64, h: usize, next: usize) -> Read
 }
 
 // A string's token, if its data are good.
-pub fn string_read(at: usize, good: bool, len: usize, next: usize) -> Read
-    ensures { result ≡ ruled at good (Read.String len next) }
+pub fn string_read(at: usize, good: bool, len: usize, next: usize) -> Result<Read, Refused>
+    ensures { result ≡ ruled at good (Ok (Read.String len next)) }
 {
     if good {
-        return Read::String { count: len, next };
+        return Ok(Read::String { count: len, next });
     }
-    bad_data(at)
+    Err(Refusal::BadData.met_at(at))
 }
 
 // An identifier's token, if its data are good.
-pub fn identifier_read(at: usize, good: bool, len: usize, next: usize) -> Read
-    ensures { result ≡ ruled at good (Read.Identifier len next) }
+pub fn identifier_read(at: usize, good: bool, len: usize, next: usize) -> Result<Read, Refused>
+    ensures { result ≡ ruled at good (Ok (Read.Identifier len next)) }
 {
     if good {
-        return Read::Identifier { len, next };
+        return Ok(Read::Identifier { len, next });
     }
-    bad_data(at)
+    Err(Refusal::BadData.met_at(at))
 }
 
 // A type whose data have no rule: a comment, or none that is read.
-pub fn unruled(k: u8, at: usize, next: usize) -> Read
-    ensures { result ≡ cond (eqb k comment_type) (Read.Comment next) (cond (eqb k continued_type) (Read.Unread Refusal.NothingContinued at) (Read.Unread Refusal.TypeNotRead at)) }
+pub fn unruled(k: u8, at: usize, next: usize) -> Result<Read, Refused>
+    ensures { result ≡ cond (eqb k comment_type) (Ok (Read.Comment next)) (cond (eqb k continued_type) (Err (refusal_at Refusal.NothingContinued at)) (Err (refusal_at Refusal.TypeNotRead at))) }
 {
     if k == 6 {
-        return Read::Comment { next };
+        return Ok(Read::Comment { next });
     }
     if k == 7 {
-        return Read::Unread {
-            refusal: Refusal::NothingContinued,
-            place: at,
-        };
+        return Err(Refusal::NothingContinued.met_at(at));
     }
-    Read::Unread {
-        refusal: Refusal::TypeNotRead,
-        place: at,
-    }
+    Err(Refusal::TypeNotRead.met_at(at))
 }
 
-fn judge_integer(at: usize, g: Summary, next: usize) -> Read
+fn judge_integer(at: usize, g: Summary, next: usize) -> Result<Read, Refused>
     requires { Fitting g }
     ensures { result ≡ ruled at (integer_size g.len) (number_read at next (ratio_of (signed_of g.len g.value) (pos 1))) }
 {
     let len = g.len;
     if !integer_size(len) {
-        return bad_data(at);
+        return Err(Refusal::BadData.met_at(at));
     }
     integer(at, g.value, len, next)
 }
 
-fn judge_rational(at: usize, g: Summary, next: usize) -> Read
+fn judge_rational(at: usize, g: Summary, next: usize) -> Result<Read, Refused>
     requires { Fitting g }
     ensures { result ≡ ruled at (rational_size g.len) (number_read at next (rational_by (g.len / 2) g.value)) }
 {
     let len = g.len;
     if !rational_size(len) {
-        return bad_data(at);
+        return Err(Refusal::BadData.met_at(at));
     }
     rational(at, g.value, len / 2, next)
 }
@@ -133,7 +113,7 @@ fn is_named(g: Summary) -> bool
 }
 
 // Joined data by the rules of the sequence's type.
-pub fn judge(k: u8, at: usize, g: Summary, next: usize) -> Read
+pub fn judge(k: u8, at: usize, g: Summary, next: usize) -> Result<Read, Refused>
     requires { Fitting g }
     ensures { result ≡ judged_by k at g next }
 {

@@ -1,6 +1,6 @@
 -- The arithmetic of an operator on numbers: b was pushed last; an operator on one number takes b. Assumes nothing.
 use Rattle.numbers.specs.declared.Number.{Number}
-use Rattle.numbers.specs.declared.Answer.{Answer}
+use Rattle.numbers.specs.Fraction.{Answer}
 use Rattle.numbers.specs.Arith.{sum_of, difference_of, product_of, quotient_of, negative_of, size_of, floor_of, ceiling_of, trunc_of, round_of, mod_of, rem_of}
 use Rattle.machine.specs.declared.ArithOp.{ArithOp}
 use Rattle.machine.specs.declared.ArithOp.TheVariants.{Add, Sub, Neg, Abs, Floor, Ceiling, Trunc, Round, Mul, Div, Mod, Rem}

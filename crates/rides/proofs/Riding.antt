@@ -1,4 +1,5 @@
 -- Rows of literals, and what stands between them. In order: the running body; a body gone on in; several steps. Assumes nothing.
+use Rattle.std.specs.Prelude.{Ok}
 use Prim.Native.Nat.{ℕ, suc, ◌+◌, ◌-◌, ◌≤◌, ◌<◌}
 use native.Mathlib.Omega.{arith}
 use mathlib.Core.Path.{◌≡◌, refl, sym, ap, ◌∙◌}
@@ -18,7 +19,6 @@ use Rattle.machine.specs.declared.Literal.TheVariants.{Plain, WithBody}
 use Rattle.machine.specs.declared.Op.TheVariants.{Calls}
 use Rattle.machine.specs.declared.CallOp.TheVariants.{Do}
 use Rattle.machine.specs.declared.Role.TheVariants as role
-use Rattle.machine.specs.declared.Went.TheVariants.{Past}
 use Rattle.machine.specs.Limits.{most_open}
 use Rattle.machine.specs.Skeleton.{role_of, solid, body_at}
 use Rattle.machine.specs.Literal.{Code, bytes_of, Found, holding_by, holding_at, operator_by, found_by, found_at}
@@ -134,17 +134,17 @@ pub found_as : (f : Found) (n m : ℕ) → f.next ≡ n → m ≡ n → f ≡ re
 found_as f n m e em = λ i. record { literal = f.literal; next = (e ∙ sym em) i }
 
 -- DO at a place
-pub do_found : (b : List ℕ) (at n next m : ℕ) → token_at b at ≡ read.Operator n next → n ≡ 231 → m ≡ solid b next → found_at b at ≡ record { literal = Plain 231; next = m }
+pub do_found : (b : List ℕ) (at n next m : ℕ) → token_at b at ≡ Ok (read.Operator n next) → n ≡ 231 → m ≡ solid b next → found_at b at ≡ record { literal = Plain 231; next = m }
 unfolding found_at found_by operator_by
 do_found b at n next m e z em = rw (e, z, em, op_role 231 (Calls Do) by_number.6 refl)
 
 -- an operator with its body
-held_found : (b : List ℕ) (at n next end : ℕ) → token_at b at ≡ read.Operator n next → role_of n ≡ role.Holds → body_at most_open b next ≡ Past end
+held_found : (b : List ℕ) (at n next end : ℕ) → token_at b at ≡ Ok (read.Operator n next) → role_of n ≡ role.Holds → body_at most_open b next ≡ Ok end
     → found_at b at ≡ record { literal = WithBody n (solid b next + 2) (end - 2 - (solid b next + 2)); next = solid b end }
 unfolding found_at found_by operator_by holding_at holding_by
 held_found b at n next end e r h = rw (e, r, h)
 
-pub if_found : (b : List ℕ) (at n next brace end : ℕ) → token_at b at ≡ read.Operator n next → n ≡ 239 → brace ≡ solid b next → body_at most_open b brace ≡ Past end
+pub if_found : (b : List ℕ) (at n next brace end : ℕ) → token_at b at ≡ Ok (read.Operator n next) → n ≡ 239 → brace ≡ solid b next → body_at most_open b brace ≡ Ok end
     → found_at b at ≡ record { literal = WithBody 239 (brace + 2) (end - 2 - (brace + 2)); next = solid b end }
 if_found b at n next brace end e z q h = rw (q, ← z) (held_found b at n next end e (if_role n z) (sym (solid_body b next brace q) ∙ h))
 
@@ -152,7 +152,7 @@ if_found b at n next brace end e z q h = rw (q, ← z) (held_found b at n next e
 pub goes_as : {b c : List ℕ} {n next at left : ℕ} {u : Further} → b ≡ c → PastHeld c n next at left u → PastHeld b n next at left u
 goes_as e h = rw e h
 
-pub body_as : {b c : List ℕ} {end : ℕ} (at : ℕ) → b ≡ c → body_at most_open c at ≡ Past end → body_at most_open b at ≡ Past end
+pub body_as : {b c : List ℕ} {end : ℕ} (at : ℕ) → b ≡ c → body_at most_open c at ≡ Ok end → body_at most_open b at ≡ Ok end
 body_as at e h = rw e h
 
 -- where there are no bytes, no body ends
@@ -166,7 +166,7 @@ pub over_some : (n : ℕ) → OneOf (110 ∷ 240 ∷ []) n → n ≡ 0 → ⊥
 over_some n (inl e) z = omega arith
 over_some n (inr e) z = omega arith
 
-pub next_inside : (b : List ℕ) (at n next : ℕ) → token_at b at ≡ read.Operator n next → next ≤ length b
+pub next_inside : (b : List ℕ) (at n next : ℕ) → token_at b at ≡ Ok (read.Operator n next) → next ≤ length b
 next_inside b at n next e = (rw e at (token_inside b at)).1
 
 -- the registers after a row
@@ -219,7 +219,7 @@ module _ {code : Code} {b w w₁ : List ℕ} {r : Registers} {at most : ℕ} {t 
   bytes_row = rw o.stays eb
 
   -- gone on past an operator and the body that it passes over
-  module _ (u : Further) (go : PastHeld b t.number t.next t.at t.left u) (token : (t.number ≡ 0 → ⊥) → token_at b t.at ≡ read.Operator t.number t.next) where
+  module _ (u : Further) (go : PastHeld b t.number t.next t.at t.left u) (token : (t.number ≡ 0 → ⊥) → token_at b t.at ≡ Ok (read.Operator t.number t.next)) where
     abbrev beyond : Reach
     beyond = record { height = t.height; left = u.left; at = u.at; failed = false; number = 0; next = u.at }
 

@@ -1,8 +1,8 @@
 -- A row of literals and the step that ends it. In order: a body gone on in; a step; several; a body passed over. Assumes nothing.
+use Rattle.std.specs.Prelude.{Ok}
 use Rattle.std.specs.Prelude.{ℕ, ◌+◌, ◌-◌, ◌≤◌, ◌<◌, ◌≡◌, true, false, List, [], ◌∷◌}
 use types.Run.{OneOf}
 use Rattle.machine.specs.declared.Literal.{Literal}
-use Rattle.machine.specs.declared.Went.TheVariants.{Past}
 use Rattle.machine.specs.Limits.{most_open}
 use Rattle.machine.specs.Skeleton.{body_at}
 use Rattle.machine.specs.Literal.{Code}
@@ -45,4 +45,4 @@ pub record Led (code : Code) (most : ℕ) (w : List ℕ) (r : Registers) (w' : L
 pub record PastHeld (b : List ℕ) (number next at left : ℕ) (u : Further) : Type 0 where
   pub fewer : u.left ≤ left
   pub stays : u.left ≡ left → u.at ≡ at
-  pub passes : u.left < left → OneOf (110 ∷ 240 ∷ []) number × (u.left + 1 ≡ left) × (body_at most_open b next ≡ Past u.at)
+  pub passes : u.left < left → OneOf (110 ∷ 240 ∷ []) number × (u.left + 1 ≡ left) × (body_at most_open b next ≡ Ok u.at)

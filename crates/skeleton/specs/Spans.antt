@@ -1,7 +1,7 @@
 -- Where the bodies of a master stand, as it is told to run and reprint: for contracts of inner functions alone. Assumes nothing.
 use Rattle.std.specs.Prelude.{ℕ, ◌+◌, ◌-◌, ◌*◌, ◌<◌, ◌≤◌, ◌≡◌, List, [], length, get_or, set}
 use Rattle.std.proofs.Math.Seq.{slice}
-use Rattle.tokens.specs.declared.Outcome.{Outcome}
+use Rattle.tokens.specs.Refusal.{Outcome}
 use Rattle.machine.specs.Limits.{most_pages}
 use Rattle.machine.specs.Skeleton.{Span, Skeleton, sound}
 use Rattle.machine.specs.Page.{bodies_of}

@@ -1,6 +1,6 @@
 -- Where bodies end, noted for who asks again: for contracts of inner functions alone. In order: the notes; a body that has been judged. Assumes nothing.
+use Rattle.std.specs.Prelude.{Ok}
 use Rattle.std.specs.Prelude.{ℕ, ◌+◌, ◌*◌, ◌%◌, ◌<◌, ◌≤◌, ◌≡◌, List, length, get_or, set}
-use Rattle.machine.specs.declared.Went.TheVariants.{Past}
 use Rattle.machine.specs.Limits.{most_open}
 use Rattle.machine.specs.Skeleton.{body_at}
 
@@ -9,7 +9,7 @@ use Rattle.machine.specs.Skeleton.{body_at}
 -- a table of 64 notes on the bytes s, two words each: the place where a body is due, 0 for none, and where it ends
 pub record Noted (s t : List ℕ) : Type 0 where
   pub room : 128 ≤ length t
-  pub each : (i : ℕ) → i < 64 → (get_or t (2 * i) 0 ≡ 0 → ⊥) → body_at most_open s (get_or t (2 * i) 0) ≡ Past (get_or t (2 * i + 1) 0)
+  pub each : (i : ℕ) → i < 64 → (get_or t (2 * i) 0 ≡ 0 → ⊥) → body_at most_open s (get_or t (2 * i) 0) ≡ Ok (get_or t (2 * i + 1) 0)
 
 -- the note that the body due at `at` ends at `end`, in the place of another
 unfoldable pub with_note : List ℕ → ℕ → ℕ → List ℕ
@@ -25,4 +25,4 @@ pub record Seen (t : List ℕ) (at end : ℕ) : Type 0 where
 
 -- the body due at `at` is read to its end
 abbrev pub BodyEnds : List ℕ → ℕ → Type 0
-BodyEnds s at = (end : ℕ) × (body_at most_open s at ≡ Past end)
+BodyEnds s at = (end : ℕ) × (body_at most_open s at ≡ Ok end)

@@ -1,5 +1,7 @@
 -- Several literals in a row, their place and their steps not yet in the table. In order: a literal; a row, a literal at a time; the row put
 -- into the table. Assumes nothing.
+use Rattle.std.specs.Prelude.{Result, Ok, Err}
+use Rattle.tokens.specs.declared.Refused.{Refused}
 use Prim.Native.Nat.{ℕ, suc, ◌+◌, ◌-◌, ◌%◌, ◌≤◌, ◌<◌}
 use native.Mathlib.Omega.{arith}
 use mathlib.Core.Path.{◌≡◌, refl, sym, ap, subst, ◌∙◌}
@@ -55,7 +57,7 @@ module _ (b : List ℕ) (at : ℕ) (f : Form) (h : Shows b at f) where
   pub operator_none : (n next : ℕ) → f ≡ form.Operator n next → NoComment (token_at b at)
   operator_none n next e = rw (operator_shown b at f n next e h) tt
 
-pub operator_solid : (b : List ℕ) (at n next : ℕ) → token_at b at ≡ read.Operator n next → NoComment (token_at b at)
+pub operator_solid : (b : List ℕ) (at n next : ℕ) → token_at b at ≡ Ok (read.Operator n next) → NoComment (token_at b at)
 operator_solid b at n next e = rw e tt
 
 pub ends_at : (w : List ℕ) (depth : ℕ) (c : Slot) → 0 < depth → c ≡ get_or (slots w) (1752 + (depth - 1)) nil → c.c ≡ ending w depth
@@ -71,13 +73,13 @@ module _ {b : List ℕ} {at end : ℕ} (h : LiteralsLeft b at end) where
   pub left_stood : TokenThere b at
   left_stood = (by_token (token_at b at) refl, λ c. (left_here c).is_literal)
     where
-      by_token : (t : Read) → token_at b at ≡ t → Reads t
-      by_token (read.Number value next) e = tt
-      by_token (read.Identifier len next) e = tt
-      by_token (read.String count next) e = tt
-      by_token (read.Operator n next) e = tt
-      by_token (read.Comment next) e = tt
-      by_token (read.Unread r p) e = rw e at (stands_reads _ (left_here (rw e tt)).is_literal)
+      by_token : (t : Result Read Refused) → token_at b at ≡ t → Reads t
+      by_token (Ok (read.Number value next)) e = tt
+      by_token (Ok (read.Identifier len next)) e = tt
+      by_token (Ok (read.String count next)) e = tt
+      by_token (Ok (read.Operator n next)) e = tt
+      by_token (Ok (read.Comment next)) e = tt
+      by_token (Err w) e = rw e at (stands_reads _ (left_here (rw e tt)).is_literal)
 
   pub left_on : (next : ℕ) → NoComment (token_at b at) → (found_at b at).next ≡ solid b next → next < end → LiteralsLeft b next end
   left_on next c e l = (l, rw (← e) (left_here c).rest)
@@ -98,7 +100,7 @@ strides_none at p t e =
     }
 
 module _ {top : ℕ} {b w w' : List ℕ} {r : Registers} (at h next m n : ℕ) (x : Literal) where
-  pub strides_of : ((h ≡ 129 → ⊥) → found_at b at ≡ record { literal = x; next = m }) → m ≡ solid b next → next ≤ length b → NoComment (token_at b at) → ((n ≡ 0 → ⊥) → token_at b at ≡ read.Operator n next) → ((code : Code) → Flat top (execute code x) w r w' h)
+  pub strides_of : ((h ≡ 129 → ⊥) → found_at b at ≡ record { literal = x; next = m }) → m ≡ solid b next → next ≤ length b → NoComment (token_at b at) → ((n ≡ 0 → ⊥) → token_at b at ≡ Ok (read.Operator n next)) → ((code : Code) → Flat top (execute code x) w r w' h)
       → Strides top b at w r w' (record { height = h; next = next; number = n })
   strides_of found em i nc told f =
       record {
@@ -113,16 +115,16 @@ module _ {top : ℕ} {b w w' : List ℕ} {r : Registers} (at h next m n : ℕ) (
 
 -- a name and a number of several bytes, by their tokens
 module _ {top : ℕ} {b w w' : List ℕ} {r : Registers} (at h next : ℕ) where
-  pub strides_name : (len s l : ℕ) → token_at b at ≡ read.Identifier len next → s ≡ at → l ≡ len → ((code : Code) → Flat top (execute code (Name s l)) w r w' h) → Strides top b at w r w' (record { height = h; next = next; number = 0 })
+  pub strides_name : (len s l : ℕ) → token_at b at ≡ Ok (read.Identifier len next) → s ≡ at → l ≡ len → ((code : Code) → Flat top (execute code (Name s l)) w r w' h) → Strides top b at w r w' (record { height = h; next = next; number = 0 })
   unfolding found_at found_by
   strides_name len s l e es el f = strides_of at h next (solid b next) 0 (Name s l) (λ _. rw (e, es, el)) refl (rw e at (token_inside b at)).1 (rw e tt) (λ k. absurd (k refl)) f
 
-  pub strides_figure : (a : num.Number) → token_at b at ≡ read.Number a next → ((code : Code) → Flat top (execute code (Figure a)) w r w' h) → Strides top b at w r w' (record { height = h; next = next; number = 0 })
+  pub strides_figure : (a : num.Number) → token_at b at ≡ Ok (read.Number a next) → ((code : Code) → Flat top (execute code (Figure a)) w r w' h) → Strides top b at w r w' (record { height = h; next = next; number = 0 })
   unfolding found_at found_by
   strides_figure a e f = strides_of at h next (solid b next) 0 (Figure a) (λ _. rw e) refl (rw e at (token_inside b at)).1 (rw e tt) (λ k. absurd (k refl)) f
 
 -- the token of a sequence, as the reader of sequences tells it
-pub sequence_read : (b : List ℕ) (at : ℕ) → 192 ≤ get_or b at 0 → Reads (token_at b at) → (t u : Read) → t ≡ sequence (get_or b at 0 % 32) at (joined_at b at) → t ≡ u → token_at b at ≡ u
+pub sequence_read : (b : List ℕ) (at : ℕ) → 192 ≤ get_or b at 0 → Reads (token_at b at) → (t u : Result Read Refused) → t ≡ sequence (get_or b at 0 % 32) at (joined_at b at) → t ≡ u → token_at b at ≡ u
 unfolding sequence
 sequence_read b at high h t u e f =
     let j = joins b at high h in

@@ -1,4 +1,5 @@
 -- Literals executed several in a row. In order: a literal by its kind; operators by their number; a step; several. Assumes nothing.
+use Rattle.std.specs.Prelude.{Ok, Err}
 use Prim.Native.Nat.{ℕ, suc, ◌+◌, ◌-◌, ◌≤◌, ◌<◌, zero}
 use native.Mathlib.Omega.{arith}
 use mathlib.Core.Path.{◌≡◌, refl, sym, ap, ◌∙◌}
@@ -12,8 +13,8 @@ use lib.Dec.{eqb}
 use lib.IntN.{pos, ◌-ℤ◌}
 use lib.ListN.{length, get_or}
 use Rattle.numbers.specs.declared.Number as num
-use Rattle.numbers.specs.declared.Answer.{Answer}
-use Rattle.numbers.specs.declared.Answer.TheVariants.{Is, TooLarge, ByZero}
+use Rattle.numbers.specs.Fraction.{Answer}
+use Rattle.numbers.specs.declared.NoNumber.TheVariants.{TooLarge, ByZero}
 use Rattle.numbers.specs.Arith.{sum_of, difference_of, product_of, quotient_of}
 use Rattle.table.specs.declared.Slot.{Slot}
 use Rattle.table.specs.Slots.{slots}
@@ -174,16 +175,16 @@ module _ (n : ℕ) (a b : num.Number) (r : Answer) where
   is_sub (inr (inr (inr e))) f g h i = rw (e, ← by_number.10, i)
 
   -- the number that it gives
-  pub gives_number : (c : num.Number) (x y : Value) → r ≡ Is c → x ≡ Number b → y ≡ Number a → answered r ≡ effect_of (op_of n) (Number b) (Number a) → Gives c ≡ effect_of (op_of n) x y
+  pub gives_number : (c : num.Number) (x y : Value) → r ≡ Ok c → x ≡ Number b → y ≡ Number a → answered r ≡ effect_of (op_of n) (Number b) (Number a) → Gives c ≡ effect_of (op_of n) x y
   unfolding answered
   gives_number c x y e ex ey i = rw (ex, ey) (rw e at i)
 
 -- or that there is none
-pub fails_number : (n : ℕ) (a b : num.Number) (r : Answer) (x y : Value) → ((c : num.Number) → r ≡ Is c → ⊥) → x ≡ Number b → y ≡ Number a → answered r ≡ effect_of (op_of n) (Number b) (Number a) → Fail ≡ effect_of (op_of n) x y
+pub fails_number : (n : ℕ) (a b : num.Number) (r : Answer) (x y : Value) → ((c : num.Number) → r ≡ Ok c → ⊥) → x ≡ Number b → y ≡ Number a → answered r ≡ effect_of (op_of n) (Number b) (Number a) → Fail ≡ effect_of (op_of n) x y
 unfolding answered
-fails_number n a b (Is c) x y k ex ey i = absurd (k c refl)
-fails_number n a b TooLarge x y k ex ey i = rw (ex, ey) i
-fails_number n a b ByZero x y k ex ey i = rw (ex, ey) i
+fails_number n a b (Ok c) x y k ex ey i = absurd (k c refl)
+fails_number n a b (Err TooLarge) x y k ex ey i = rw (ex, ey) i
+fails_number n a b (Err ByZero) x y k ex ey i = rw (ex, ey) i
 
 pub sums_two : (n : ℕ) → OneOf (201 ∷ 204 ∷ 210 ∷ 214 ∷ []) n → (2 ≡ arity_of (op_of n)) × (2 ≤ 2)
 unfolding arity_of arith_arity
@@ -402,13 +403,13 @@ operated n l d = (flat_higher l d.0, d.1)
 module _ (b : List ℕ) (at : ℕ) (f : Form) (shows : Shows b at f) where
   pub number_inside : (raw next : ℕ) → f ≡ form.Number raw next → next ≤ length b
   number_inside raw next e =
-      let t : token_at b at ≡ read.Number (record { num = pos raw -ℤ pos bias; den = 1 }) next = rw e at shows in
+      let t : token_at b at ≡ Ok (read.Number (record { num = pos raw -ℤ pos bias; den = 1 }) next) = rw e at shows in
       (rw t at (token_inside b at)).1
 
   pub found_number : (raw next past : ℕ) (a : num.Number) → f ≡ form.Number raw next → a ≡ record { num = pos raw -ℤ pos bias; den = 1 } → past ≡ solid b next → found_at b at ≡ record { literal = Figure a; next = past }
   unfolding found_at found_by
   found_number raw next past a e en ep =
-      let t : token_at b at ≡ read.Number (record { num = pos raw -ℤ pos bias; den = 1 }) next = rw e at shows in
+      let t : token_at b at ≡ Ok (read.Number (record { num = pos raw -ℤ pos bias; den = 1 }) next) = rw e at shows in
       rw (t, en, ep)
 
 pub figure_flat : (a : num.Number) (s : State) → flat (effect_at (Figure a) s) ≡ true

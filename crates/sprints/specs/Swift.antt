@@ -1,5 +1,6 @@
 -- Steps as the code takes them: one literal, answering the new height of the stack, or more than the stack can hold, when nothing was done;
 -- one literal of any kind; and several in a row. Assumes nothing.
+use Rattle.std.specs.Prelude.{Ok}
 use Rattle.std.specs.Prelude.{ℕ, ◌+◌, ◌-◌, ◌≤◌, ◌<◌, ◌≡◌, true, false, not, ◌&&◌, List, [], ◌∷◌, length}
 use Rattle.std.proofs.Math.Option.{Option, none, some}
 use Rattle.table.specs.Slots.{slots}
@@ -123,7 +124,7 @@ pub record Strides (top : ℕ) (b : List ℕ) (at : ℕ) (w : List ℕ) (r : Reg
   pub token : (t.height ≡ undone_height → ⊥) → NoComment (token_at b at)
   pub next : (t.height ≡ undone_height → ⊥) → (found_at b at).next ≡ solid b t.next
   pub inside : (t.height ≡ undone_height → ⊥) → t.next ≤ length b
-  pub told : (t.number ≡ 0 → ⊥) → token_at b at ≡ read.Operator t.number t.next
+  pub told : (t.number ≡ 0 → ⊥) → token_at b at ≡ Ok (read.Operator t.number t.next)
   pub does : (t.height ≡ undone_height → ⊥) → (code : Code) → Flat top (execute code (found_at b at).literal) w r w' t.height
 
 -- the registers r with another height, and no more

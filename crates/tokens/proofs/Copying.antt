@@ -1,5 +1,11 @@
 -- The data of a sequence with all that continues it, stored a piece at a time into a list of elements, each byte as one of them. In
 -- order: data joined before others; the pieces that continue; the whole; how many bytes. Assumes nothing.
+use Rattle.std.specs.Prelude.{Result, Ok, Err, Option, Some, None}
+use Rattle.tokens.specs.Refusal.{refusal_at}
+use Rattle.tokens.specs.declared.Refused.{Refused}
+use Rattle.tokens.specs.Joined.{piece_from}
+use Rattle.tokens.specs.Inner.{gathered}
+use Rattle.tokens.specs.declared.Refusal.TheVariants.{CutOff}
 use mathlib.Core.Path.{◌≡◌, refl, sym, ap, subst, ◌∙◌}
 use mathlib.Core.Bool.{Bool, true, false, cond}
 use mathlib.Core.List.{List, [], ◌∷◌, ◌++◌, append_assoc, append-nil}
@@ -11,10 +17,8 @@ use lib.Seq.{slice, sets}
 use Rattle.table.proofs.Stores.{sets_append}
 use Rattle.table.proofs.WordLists.{Bytes, bytes_take}
 use Rattle.tokens.specs.declared.Piece.{Piece}
-use Rattle.tokens.specs.declared.Piece.TheVariants.{Data, Missing}
 use Rattle.tokens.specs.declared.Summary.{Summary}
 use Rattle.tokens.specs.declared.Gathered.{Gathered}
-use Rattle.tokens.specs.declared.Gathered.TheVariants.{Whole, Broken}
 use Rattle.tokens.specs.Bytes.{value_of}
 use Rattle.tokens.specs.Text.{every}
 use Rattle.tokens.specs.Inner.{rule_of, room_of, summary_of, gathered_of}
@@ -33,10 +37,10 @@ before_cond : (f : List ℕ) (b : Bool) (x y x' y' : Joined) → x ≡ before f 
 before_cond f true x y x' y' e g = e
 before_cond f false x y x' y' e g = g
 
-before_piece : (f : List ℕ) (at : ℕ) (w : Piece) (g g' : ℕ → ℕ → Joined) → ((a m : ℕ) → g a m ≡ before f (g' a m)) → on_piece w (cut_at at) g ≡ before f (on_piece w (cut_at at) g')
+before_piece : (f : List ℕ) (at : ℕ) (w : Option Piece) (g g' : ℕ → ℕ → Joined) → ((a m : ℕ) → g a m ≡ before f (g' a m)) → on_piece w (cut_at at) g ≡ before f (on_piece w (cut_at at) g')
 unfolding on_piece
-before_piece f at (Data a m) g g' e = e a m
-before_piece f at Missing g g' e = refl
+before_piece f at (Some p) g g' e = e p.start p.len
+before_piece f at None g g' e = refl
 
 from_before : (k : ℕ) (s : List ℕ) (at : ℕ) (f d : List ℕ) → joined_from k s at (f ++ d) ≡ before f (joined_from k s at d)
 unfolding joined_from
@@ -61,7 +65,7 @@ fits_so_far J n o k s at d e f = (fits_before n o d (joined_from k s at []) (sub
 
 -- ---- the pieces that continue
 
-pub none_left : (s : List ℕ) (at : ℕ) → length s ≤ at → continuing s at ≡ Missing
+pub none_left : (s : List ℕ) (at : ℕ) → length s ≤ at → continuing s at ≡ None
 none_left s at h = rw (at_end_lem s at h)
 
 -- how bytes are stored: one element each
@@ -88,24 +92,24 @@ pub record Copied {A : Type 0} (sh : List ℕ → List A) (J : Joined) (s : List
   pub rest : joined_from k s at d ≡ J
 
 module _ {A : Type 0} {sh : List ℕ → List A} {J : Joined} {s : List ℕ} {text₀ text : List A} {o k at q : ℕ} {d : List ℕ} (S : Shows sh) (C : Copied sh J s text₀ text o k at q d) (fits : FitsText (length text₀) o J) where
-  ends_by : (c : Bool) → continued (get_or s at 0) ≡ c → continuing s at ≡ Missing → J ≡ whole d at
+  ends_by : (c : Bool) → continued (get_or s at 0) ≡ c → continuing s at ≡ None → J ≡ whole d at
   unfolding on_piece
   ends_by true e h =
-      let p : piece_at s at ≡ Missing = rw e at h in
+      let p : piece_at s at ≡ None = rw e at h in
       let g : J ≡ cut_at at = sym C.rest ∙ turn k s at d C.room ∙ rw (e, p) in
       absurd (subst (FitsText (length text₀) o) g fits)
   ends_by false e h = sym C.rest ∙ turn k s at d C.room ∙ rw e
 
-  pub copied_end : continuing s at ≡ Missing → text ≡ sets text₀ o (sh (data_of J))
+  pub copied_end : continuing s at ≡ None → text ≡ sets text₀ o (sh (data_of J))
   unfolding data_of
   copied_end h = rw (ends_by (continued (get_or s at 0)) refl h) C.text_is
 
-  module _ {f m : ℕ} (here : continuing s at ≡ Data f m) where
-    goes_by : (c : Bool) → continued (get_or s at 0) ≡ c → (continued (get_or s at 0) ≡ true) × (piece_at s at ≡ Data f m)
+  module _ {f m : ℕ} (here : continuing s at ≡ Some (piece_from f m)) where
+    goes_by : (c : Bool) → continued (get_or s at 0) ≡ c → (continued (get_or s at 0) ≡ true) × (piece_at s at ≡ Some (piece_from f m))
     goes_by true e = (e, rw e at here)
     goes_by false e = absurd (let p = rw e at here in let z : ◌≡◌ {A = ℕ} 0 1 = cc in omega arith)
 
-    piece : piece_at s at ≡ Data f m
+    piece : piece_at s at ≡ Some (piece_from f m)
     piece = (goes_by (continued (get_or s at 0)) refl).1
 
     piece_in : (at < f) × (f + m ≤ length s)
@@ -137,10 +141,10 @@ module _ {A : Type 0} {sh : List ℕ → List A} {J : Joined} {s : List ℕ} {te
 -- ---- the whole text
 
 module _ (s : List ℕ) (at n o : ℕ) (fits : FitsText n o (joined_at s at)) where
-  pub not_missing : piece_at s at ≡ Missing → ⊥
+  pub not_missing : piece_at s at ≡ None → ⊥
   not_missing p = subst (FitsText n o) (joined_missing s at p) fits
 
-  module _ {f m : ℕ} (p : piece_at s at ≡ Data f m) where
+  module _ {f m : ℕ} (p : piece_at s at ≡ Some (piece_from f m)) where
     abbrev first : List ℕ
     first = slice f (f + m) s
 
@@ -175,22 +179,22 @@ none_past s at h =
     let n = value_of (slice (at + 1) (at + 1 + k) s) in
     rw (lt-leb (at + 1 + k + n) (length s) (omega arith))
 
-pub none_missing : (s : List ℕ) (at : ℕ) → piece_at s at ≡ Missing → 0 ≡ length (data_of (joined_at s at))
+pub none_missing : (s : List ℕ) (at : ℕ) → piece_at s at ≡ None → 0 ≡ length (data_of (joined_at s at))
 unfolding data_of
 none_missing s at p = rw (joined_missing s at p)
 
-size_of : (t : ℕ) (J : Joined) (g : Summary) (next : ℕ) → gathered_of t J ≡ Whole g next → g.len ≡ length (data_of J)
+size_of : (t : ℕ) (J : Joined) (g : Summary) (next : ℕ) → gathered_of t J ≡ Ok (gathered g next) → g.len ≡ length (data_of J)
 unfolding gathered_of summary_of data_of
-size_of t (whole d n) g next e = let f : record { len = length d; first = get_or d 0 0; value = value_of (take (room_of t) d); good = every (rule_of t) d } ≡ g = cc in ap (λ (x : Summary). x.len) (sym f)
+size_of t (whole d n) g next e = let f : gathered (summary_of t d) n ≡ gathered g next = cc in ap (λ (x : Gathered). x.sum.len) (sym f)
 size_of t (cut_at place) g next e = let z : ◌≡◌ {A = ℕ} 0 1 = cc in absurd (omega arith)
 
-none_cut : (t : ℕ) (J : Joined) (place : ℕ) → gathered_of t J ≡ Broken place → 0 ≡ length (data_of J)
+none_cut : (t : ℕ) (J : Joined) (place : ℕ) → gathered_of t J ≡ Err (refusal_at CutOff place) → 0 ≡ length (data_of J)
 unfolding gathered_of data_of
 none_cut t (whole d n) place e = let z : ◌≡◌ {A = ℕ} 0 1 = cc in absurd (omega arith)
 none_cut t (cut_at p) place e = refl
 
 -- in one piece
-module _ (s : List ℕ) (at f n : ℕ) (p : piece_at s at ≡ Data f n) (h : continued (get_or s (f + n) 0) ≡ false) where
+module _ (s : List ℕ) (at f n : ℕ) (p : piece_at s at ≡ Some (piece_from f n)) (h : continued (get_or s (f + n) 0) ≡ false) where
   pub joined_one : joined_at s at ≡ whole (slice f (f + n) s) (f + n)
   joined_one = joined_data s at f n p ∙ turn (length s) s (f + n) (slice f (f + n) s) (omega arith) ∙ rw h
 
@@ -198,11 +202,11 @@ module _ (s : List ℕ) (at f n : ℕ) (p : piece_at s at ≡ Data f n) (h : con
   unfolding data_of
   size_one i = rw joined_one (sym (part_length s f n i))
 
-module _ (s : List ℕ) (at f n t : ℕ) (r : Gathered) (p : piece_at s at ≡ Data f n) (e : r ≡ gathered_of t (joined_from (length s) s (f + n) (slice f (f + n) s))) where
-  pub size_whole : {g : Summary} {next : ℕ} → r ≡ Whole g next → g.len ≡ length (data_of (joined_at s at))
+module _ (s : List ℕ) (at f n t : ℕ) (r : Result Gathered Refused) (p : piece_at s at ≡ Some (piece_from f n)) (e : r ≡ gathered_of t (joined_from (length s) s (f + n) (slice f (f + n) s))) where
+  pub size_whole : {g : Summary} {next : ℕ} → r ≡ Ok (gathered g next) → g.len ≡ length (data_of (joined_at s at))
   size_whole {g} {next} h = rw (joined_data s at f n p) (size_of t _ g next (sym e ∙ h))
 
-  pub size_cut : {place : ℕ} → r ≡ Broken place → 0 ≡ length (data_of (joined_at s at))
+  pub size_cut : {place : ℕ} → r ≡ Err (refusal_at CutOff place) → 0 ≡ length (data_of (joined_at s at))
   size_cut {place} h = rw (joined_data s at f n p) (none_cut t _ place (sym e ∙ h))
 
 bytes_append : (d e : List ℕ) → Bytes d → Bytes e → Bytes (d ++ e)
@@ -218,10 +222,10 @@ bytes_drop (suc n) (b ∷ s) f i = bytes_drop n s (λ j. f (suc j)) i
 bytes_slice : (a b : ℕ) (s : List ℕ) → Bytes s → Bytes (slice a b s)
 bytes_slice a b s f i = bytes_drop a (take b s) (bytes_take b s f) i
 
-bytes_piece : (w : Piece) (at : ℕ) (g : ℕ → ℕ → Joined) → ((a m : ℕ) → Bytes (data_of (g a m))) → Bytes (data_of (on_piece w (cut_at at) g))
+bytes_piece : (w : Option Piece) (at : ℕ) (g : ℕ → ℕ → Joined) → ((a m : ℕ) → Bytes (data_of (g a m))) → Bytes (data_of (on_piece w (cut_at at) g))
 unfolding on_piece data_of
-bytes_piece (Data a m) at g h i = h a m i
-bytes_piece Missing at g h i = omega arith
+bytes_piece (Some p) at g h i = h p.start p.len i
+bytes_piece None at g h i = omega arith
 
 bytes_cond : (b : Bool) (x y : Joined) → Bytes (data_of x) → Bytes (data_of y) → Bytes (data_of (cond b x y))
 bytes_cond true x y f g i = f i

@@ -1,4 +1,5 @@
 -- Joined data: where they end, how long they are, and that each of them is a byte. Assumes nothing.
+use Rattle.std.specs.Prelude.{Option, Some, None}
 use mathlib.Core.Path.{◌≡◌, refl, sym, ◌∙◌}
 use mathlib.Core.Bool.{Bool, true, false, false≢true}
 use mathlib.Core.List.{List, [], ◌∷◌, ◌++◌}
@@ -8,7 +9,6 @@ use lib.Dec.{lit<, ltb}
 use lib.ListN.{length, get_or, take, length-append}
 use lib.Seq.{slice, get_or-drop}
 use Rattle.tokens.specs.declared.Piece.{Piece}
-use Rattle.tokens.specs.declared.Piece.TheVariants.{Data, Missing}
 use Rattle.tokens.specs.Joined.{Joined, whole, cut_at, piece_at, continued, on_piece, joined_from, joined_at}
 use Rattle.numbers.proofs.Cond.{either}
 use Rattle.table.proofs.WordLists.{Bytes}
@@ -34,10 +34,10 @@ take_bytes (suc n) (b ∷ d) f (suc i) = take_bytes n d (λ j. f (suc j)) i
 pub slice_bytes : (s : List ℕ) (a e : ℕ) → Bytes s → Bytes (slice a e s)
 slice_bytes s a e f i = rw (get_or-drop a (take e s) i 0) (take_bytes e s f (a + i))
 
-on_bytes : (at : ℕ) (w : Piece) (F : ℕ → ℕ → Joined) → ((f m : ℕ) → AllBytes (F f m)) → AllBytes (on_piece w (cut_at at) F)
+on_bytes : (at : ℕ) (w : Option Piece) (F : ℕ → ℕ → Joined) → ((f m : ℕ) → AllBytes (F f m)) → AllBytes (on_piece w (cut_at at) F)
 unfolding on_piece
-on_bytes at (Data f m) F g = g f m
-on_bytes at Missing F g = tt
+on_bytes at (Some p) F g = g p.start p.len
+on_bytes at None F g = tt
 
 from_bytes : (k : ℕ) (s : List ℕ) (at : ℕ) (d : List ℕ) → Bytes s → Bytes d → AllBytes (joined_from k s at d)
 unfolding joined_from
@@ -60,10 +60,10 @@ abbrev pub Ends : ℕ → ℕ → Joined → Type 0
 Ends n low (whole d next) = (low + length d < next) × (next ≤ n)
 Ends n low (cut_at place) = (low ≤ place) × (place < n)
 
-on_ends : (n low at : ℕ) (w : Piece) (F : ℕ → ℕ → Joined) → low ≤ at → at < n → Inside n at w → ((f m : ℕ) → at < f → f + m ≤ n → Ends n low (F f m)) → Ends n low (on_piece w (cut_at at) F)
+on_ends : (n low at : ℕ) (w : Option Piece) (F : ℕ → ℕ → Joined) → low ≤ at → at < n → Inside n at w → ((f m : ℕ) → at < f → f + m ≤ n → Ends n low (F f m)) → Ends n low (on_piece w (cut_at at) F)
 unfolding on_piece
-on_ends n low at (Data f m) F h k i g = g f m i.0 i.1
-on_ends n low at Missing F h k i g = (h, k)
+on_ends n low at (Some p) F h k i g = g p.start p.len i.0 i.1
+on_ends n low at None F h k i g = (h, k)
 
 longer : (s d : List ℕ) (a m : ℕ) → a + m ≤ length s → length (d ++ slice a (a + m) s) ≡ length d + m
 longer s d a m h = omega (arith, length-append d (slice a (a + m) s), part_length s a m h)

@@ -1,4 +1,7 @@
 -- What the reader keeps of the data is enough to judge them. Assumes nothing.
+use Rattle.std.specs.Prelude.{Ok, Err}
+use Rattle.tokens.specs.Refusal.{refusal_at}
+use Rattle.tokens.specs.Inner.{gathered}
 use mathlib.Core.Path.{◌≡◌, ap, ◌∙◌}
 use mathlib.Core.List.{List}
 use Prim.Native.Nat.{ℕ, ◌+◌, ◌/◌, ◌≤◌}
@@ -9,10 +12,9 @@ use lib.ListN.{length, take}
 use lib.Seq.{take_all}
 use borrow.Author.Tests.{eqb-true}
 use Rattle.numbers.specs.Fraction.{ratio_of}
-use Rattle.tokens.specs.declared.Read.TheVariants.{Unread}
+use Rattle.tokens.specs.declared.Gathered.{Gathered}
 use Rattle.tokens.specs.declared.Refusal.TheVariants.{CutOff, BadData}
 use Rattle.tokens.specs.declared.Summary.{Summary}
-use Rattle.tokens.specs.declared.Gathered.TheVariants.{Whole, Broken}
 use Rattle.tokens.specs.Bytes.{value_after, signed_of}
 use Rattle.tokens.specs.Text.{is_name}
 use Rattle.tokens.specs.Joined.{Joined, whole, cut_at}
@@ -30,7 +32,7 @@ first_eight d h = ap (value_after 0) (take_all 8 d h)
 integer_is : (at : ℕ) (d : List ℕ) (next : ℕ) → judged_by 2 at (summary_of 2 d) next ≡ judged 2 at d next
 unfolding judged_by judged summary_of room_of
 integer_is at d next =
-    under (integer_size (length d)) _ _ (Unread BadData at)
+    under (integer_size (length d)) _ _ (Err (refusal_at BadData at))
     (λ h. ap (λ (v : ℕ). number_read at next (ratio_of (signed_of (length d) v) (pos 1))) (first_eight d (omega (arith, integer_few (length d) h))))
 
 -- judging the value of two halves is judging the halves
@@ -41,7 +43,7 @@ rational_by_lem h d l b = rw ((halves h d l b).0, (halves h d l b).1)
 rational_is : (at : ℕ) (d : List ℕ) (next : ℕ) → Bytes d → judged_by 4 at (summary_of 4 d) next ≡ judged 4 at d next
 unfolding judged_by judged summary_of room_of
 rational_is at d next b =
-    under (rational_size (length d)) _ _ (Unread BadData at)
+    under (rational_size (length d)) _ _ (Err (refusal_at BadData at))
     (λ h. let few = rational_few (length d) h in
     let halved : length d ≡ length d / 2 + length d / 2 = omega (arith, few.0) in
     ap (number_read at next) (ap (rational_by (length d / 2)) (first_eight d few.1) ∙ rational_by_lem (length d / 2) d halved b))
@@ -59,15 +61,16 @@ abbrev pub AllBytes : Joined → Type 0
 AllBytes (whole d next) = Bytes d
 AllBytes (cut_at place) = Unit
 
-pub sequence_whole : (k at : ℕ) (J : Joined) (g : Summary) (next : ℕ) → AllBytes J → gathered_of k J ≡ Whole g next → judged_by k at g next ≡ sequence k at J
+pub sequence_whole : (k at : ℕ) (J : Joined) (g : Summary) (next : ℕ) → AllBytes J → gathered_of k J ≡ Ok (gathered g next) → judged_by k at g next ≡ sequence k at J
 unfolding gathered_of sequence
 sequence_whole k at (whole d n) g next b e =
-    let p : summary_of k d ≡ g = cc in
-    let q : n ≡ next = cc in
+    let both : gathered (summary_of k d) n ≡ gathered g next = cc in
+    let p : summary_of k d ≡ g = ap (λ (x : Gathered). x.sum) both in
+    let q : n ≡ next = ap (λ (x : Gathered). x.next) both in
     rw (← p, ← q) (judged_is k at d n b)
 sequence_whole k at (cut_at place) g next b e = cc
 
-pub sequence_broken : (k at : ℕ) (J : Joined) (place : ℕ) → gathered_of k J ≡ Broken place → Unread CutOff place ≡ sequence k at J
+pub sequence_broken : (k at : ℕ) (J : Joined) (place : ℕ) → gathered_of k J ≡ Err (refusal_at CutOff place) → Err (refusal_at CutOff place) ≡ sequence k at J
 unfolding gathered_of sequence
 sequence_broken k at (whole d n) place e = cc
 sequence_broken k at (cut_at p) place e = cc

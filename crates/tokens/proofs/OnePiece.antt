@@ -1,5 +1,7 @@
 -- A sequence in one piece, judged where it lies. In order: a quotient inside the limits before it is reduced; integers of up to four
 -- bytes; the data by their type; the token. Assumes nothing.
+use Rattle.std.specs.Prelude.{Ok, Err, Some}
+use Rattle.tokens.specs.Joined.{piece_from}
 use mathlib.Core.Path.{◌≡◌, refl, sym, ap, ◌∙◌}
 use mathlib.Core.Bool.{true, false, not, false≢true}
 use mathlib.Core.List.{List}
@@ -13,16 +15,14 @@ use lib.Pow.{pow_mono}
 use lib.Seq.{slice, drop-drop}
 use lib.Signed.{quot_z}
 use borrow.Author.Tests.{lt-ltb, le-ltb, le-leb, eq-eqb, ne_eqb, ltb-true, ltb-false}
-use Rattle.numbers.specs.declared.Answer.{Answer}
-use Rattle.numbers.specs.declared.Answer.TheVariants.{Is, TooLarge, ByZero}
+use Rattle.numbers.specs.Fraction.{Answer}
+use Rattle.numbers.specs.declared.NoNumber.TheVariants.{TooLarge, ByZero}
 use Rattle.numbers.specs.Gcd.{gcd_of}
 use Rattle.numbers.specs.Whole.{signed, signed_by}
 use Rattle.numbers.specs.Fraction.{most, limited, ratio_of}
 use Rattle.numbers.proofs.Cond.{either}
 use Rattle.numbers.proofs.Signs.{abs_signed, signed_quot}
 use Rattle.tokens.specs.declared.Rule.TheVariants.{Plain, Named}
-use Rattle.tokens.specs.declared.Piece.TheVariants.{Data}
-use Rattle.tokens.specs.declared.Pass.TheVariants.{Over}
 use Rattle.tokens.specs.Bytes.{value_of, signed_of}
 use Rattle.tokens.specs.Text.{every, is_name}
 use Rattle.tokens.specs.Joined.{continued, piece_at, joined_at}
@@ -95,37 +95,37 @@ rational_answered h m v w a s hh l e f hv hw nv nw nz =
     let q : drop h (slice a (a + m) s) ≡ slice (a + h) (a + h + h) s = drop-drop h a (take (a + m) s) ∙ ap (λ (x : ℕ). slice (a + h) x s) (sym t) in
     rw (p, q, ← e, ← f) (ratio_answered (signed_of h v) (signed_of h w) (small h v hv hh nv) (small h w hw hh nw) (not_zero h w hw nz))
 
-answered_over : (at next : ℕ) (a : Answer) → Answered a → pass_of (number_read at next a) ≡ Over next
+answered_over : (at next : ℕ) (a : Answer) → Answered a → pass_of (number_read at next a) ≡ Ok next
 unfolding pass_of number_read
-answered_over at next (Is value) h = refl
-answered_over at next TooLarge h = absurd h
-answered_over at next ByZero h = absurd h
+answered_over at next (Ok value) h = refl
+answered_over at next (Err TooLarge) h = absurd h
+answered_over at next (Err ByZero) h = absurd h
 
 module _ (k n : ℕ) (d : List ℕ) (l : length d ≡ n) (at next : ℕ) where
-  pub string_over : k ≡ 1 → every Plain d ≡ true → pass_of (judged k at d next) ≡ Over next
+  pub string_over : k ≡ 1 → every Plain d ≡ true → pass_of (judged k at d next) ≡ Ok next
   unfolding pass_of judged
   string_over e h = rw (e, h)
 
-  pub integer_over : k ≡ 2 → (integer_size n ≡ true) × Answered (ratio_of (integer_in n d) (pos 1)) → pass_of (judged k at d next) ≡ Over next
+  pub integer_over : k ≡ 2 → (integer_size n ≡ true) × Answered (ratio_of (integer_in n d) (pos 1)) → pass_of (judged k at d next) ≡ Ok next
   unfolding judged
   integer_over e h = rw (e, l, h.0) (answered_over at next (ratio_of (integer_in n d) (pos 1)) h.1)
 
-  pub rational_over : k ≡ 4 → (rational_size n ≡ true) × Answered (rational_in (n / 2) d) → pass_of (judged k at d next) ≡ Over next
+  pub rational_over : k ≡ 4 → (rational_size n ≡ true) × Answered (rational_in (n / 2) d) → pass_of (judged k at d next) ≡ Ok next
   unfolding judged
   rational_over e h = rw (e, l, h.0) (answered_over at next (rational_in (n / 2) d) h.1)
 
-  pub name_over : k ≡ 5 → is_name Named d ≡ true → pass_of (judged k at d next) ≡ Over next
+  pub name_over : k ≡ 5 → is_name Named d ≡ true → pass_of (judged k at d next) ≡ Ok next
   unfolding pass_of judged
   name_over e h = rw (e, h)
 
-  pub comment_over : k ≡ 6 → pass_of (judged k at d next) ≡ Over next
+  pub comment_over : k ≡ 6 → pass_of (judged k at d next) ≡ Ok next
   unfolding pass_of judged
   comment_over e = rw e
 
 -- ---- the token
 
 -- a piece that nothing continues is all of its sequence
-pub sequence_one : (k : ℕ) (s : List ℕ) (at f n : ℕ) → piece_at s at ≡ Data f n → continued (get_or s (f + n) 0) ≡ false → sequence k at (joined_at s at) ≡ judged k at (slice f (f + n) s) (f + n)
+pub sequence_one : (k : ℕ) (s : List ℕ) (at f n : ℕ) → piece_at s at ≡ Some (piece_from f n) → continued (get_or s (f + n) 0) ≡ false → sequence k at (joined_at s at) ≡ judged k at (slice f (f + n) s) (f + n)
 unfolding sequence
 sequence_one k s at f n p h = rw (joined_data s at f n p, turn (length s) s (f + n) (slice f (f + n) s) (omega arith), h)
 
@@ -134,5 +134,5 @@ module _ (s : List ℕ) (at : ℕ) (here : at < length s) (first : 192 ≤ get_o
   unfolding token_at token_of
   sequence_is = simp (lt-ltb at (length s) here, le-ltb (get_or s at 0) 128 (omega arith), le-ltb (get_or s at 0) 160 (omega arith), le-ltb (get_or s at 0) 192 (omega arith))
 
-  pub one_piece : (f n : ℕ) → piece_at s at ≡ Data f n → continued (get_or s (f + n) 0) ≡ false → token_at s at ≡ judged (get_or s at 0 % 32) at (slice f (f + n) s) (f + n)
+  pub one_piece : (f n : ℕ) → piece_at s at ≡ Some (piece_from f n) → continued (get_or s (f + n) 0) ≡ false → token_at s at ≡ judged (get_or s at 0 % 32) at (slice f (f + n) s) (f + n)
   one_piece f n p h = sequence_is ∙ sequence_one (get_or s at 0 % 32) s at f n p h

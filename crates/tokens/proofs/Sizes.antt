@@ -1,19 +1,21 @@
 -- The rules on a sequence's data, test by test, and what is answered where they hold and where one fails. Assumes nothing.
+use Rattle.std.specs.Prelude.{Result, Err}
+use Rattle.tokens.specs.Refusal.{refusal_at}
+use Rattle.tokens.specs.declared.Refused.{Refused}
 use mathlib.Core.Path.{◌≡◌, sym, ◌∙◌}
 use mathlib.Core.Bool.{Bool, true, false, ◌&&◌, and_assoc}
 use Prim.Native.Nat.{ℕ, ◌%◌, ◌≤◌}
 use lib.Dec.{leb, eqb}
 use borrow.Author.Tests.{leb-true, eqb-true}
 use Rattle.tokens.specs.declared.Read.{Read}
-use Rattle.tokens.specs.declared.Read.TheVariants.{Unread}
 use Rattle.tokens.specs.declared.Refusal.TheVariants.{BadData}
 use Rattle.tokens.specs.Token.{integer_size, rational_size, ruled}
 use Rattle.numbers.proofs.Cond.{both, no_left, no_right}
 
-pub ruled_not : (at : ℕ) (good : Bool) (t r : Read) → good ≡ false → r ≡ Unread BadData at → r ≡ ruled at good t
+pub ruled_not : (at : ℕ) (good : Bool) (t r : Result Read Refused) → good ≡ false → r ≡ Err (refusal_at BadData at) → r ≡ ruled at good t
 ruled_not at good t r h e = rw (h, e)
 
-pub ruled_is : (at : ℕ) (good : Bool) (t r : Read) → good ≡ true → r ≡ t → r ≡ ruled at good t
+pub ruled_is : (at : ℕ) (good : Bool) (t r : Result Read Refused) → good ≡ true → r ≡ t → r ≡ ruled at good t
 ruled_is at good t r h e = rw (h, e)
 
 module _ (n : ℕ) where

@@ -1,5 +1,8 @@
 -- What a reader of the token layer may quote, and all that the layers above may use beside the definitions. In order: the reader's one
 -- answer; what a token says of itself; the proved bench cases. Work: Told.antt, Ends.antt. Assumes nothing.
+use Rattle.std.specs.Prelude.{Result, Err}
+use Rattle.tokens.specs.Refusal.{refusal_at}
+use Rattle.tokens.specs.declared.Refused.{Refused}
 use mathlib.Core.Path.{◌≡◌, refl, sym, ◌∙◌}
 use mathlib.Core.List.{List}
 use Prim.Native.Nat.{ℕ, ◌%◌, ◌<◌, ◌≤◌}
@@ -10,7 +13,6 @@ use Rattle.numbers.specs.Gcd.{gcd_turns, gcd_of}
 use Rattle.numbers.specs.Whole.{signed_by}
 use Rattle.numbers.specs.Fraction.{limited, ratio_of}
 use Rattle.tokens.specs.declared.Read.{Read}
-use Rattle.tokens.specs.declared.Read.TheVariants.{Unread}
 use Rattle.tokens.specs.declared.Refusal.{Refusal}
 use Rattle.tokens.specs.declared.Refusal.TheVariants.{CutOff}
 use Rattle.tokens.specs.Refusal.{number_of}
@@ -29,7 +31,7 @@ pub numbers_one : (a b : Refusal) → number_of a ≡ number_of b → a ≡ b
 numbers_one a b e = same_number a b e
 
 -- THEOREM (demand 1). No second answer satisfies the promise of `read_token`.
-pub read_token_one : (s : List ℕ) (at : ℕ) {r₁ r₂ : Read} → r₁ ≡ token_at s at → r₂ ≡ token_at s at → r₁ ≡ r₂
+pub read_token_one : (s : List ℕ) (at : ℕ) {r₁ r₂ : Result Read Refused} → r₁ ≡ token_at s at → r₂ ≡ token_at s at → r₁ ≡ r₂
 read_token_one s at e f = e ∙ sym f
 
 -- THEOREM (for the layers above). A token that is read starts inside the input and ends later inside it; a number is inside the limits
@@ -42,7 +44,7 @@ pub token_tells_all : (s : List ℕ) (at : ℕ) → Tells s at (token_at s at)
 token_tells_all s at = token_tells s at
 
 -- THEOREM (for the layers above). At the end of the input there is no token.
-pub token_end : (s : List ℕ) (at : ℕ) → length s ≤ at → token_at s at ≡ Unread CutOff at
+pub token_end : (s : List ℕ) (at : ℕ) → length s ≤ at → token_at s at ≡ Err (refusal_at CutOff at)
 unfolding token_at
 token_end s at h = rw (le-ltb at (length s) h)
 

@@ -1,5 +1,8 @@
 -- What a token that is read says of itself: where it ends, and what stands in its constructor; and where a refusal's place lies.
 -- In order: the claims; a sequence by its type; the token by its first byte. Assumes nothing.
+use Rattle.std.specs.Prelude.{Result, Ok, Err}
+use Rattle.tokens.specs.Refusal.{refusal_at}
+use Rattle.tokens.specs.declared.Refused.{Refused}
 use mathlib.Core.Path.{◌≡◌, refl}
 use mathlib.Core.Bool.{Bool, true}
 use mathlib.Core.List.{List}
@@ -10,13 +13,13 @@ use lib.Dec.{ltb, eqb, lit<, lit≤}
 use lib.ListN.{length, get_or}
 use lib.IntN.{ℤ, pos, nat_abs, ◌-ℤ◌}
 use borrow.Author.Tests.{ltb-true, le-leb}
-use Rattle.numbers.specs.declared.Answer.{Answer}
-use Rattle.numbers.specs.declared.Answer.TheVariants.{Is, TooLarge, ByZero}
+use Rattle.numbers.specs.Fraction.{Answer}
+use Rattle.numbers.specs.declared.NoNumber.TheVariants.{TooLarge, ByZero}
 use Rattle.numbers.specs.Gcd.{gcd_of, gcd_turns}
 use Rattle.numbers.specs.Fraction.{ratio_of, is_fraction, is_number}
 use Rattle.numbers.proofs.Theorems.{number_ratio}
 use Rattle.tokens.specs.declared.Read.{Read}
-use Rattle.tokens.specs.declared.Read.TheVariants.{Number, Identifier, String, Operator, Comment, Unread}
+use Rattle.tokens.specs.declared.Read.TheVariants.{Number, Identifier, String, Operator, Comment}
 use Rattle.tokens.specs.declared.Refusal.TheVariants.{CutOff}
 use Rattle.tokens.specs.declared.Rule.TheVariants.{Plain, Named}
 use Rattle.tokens.specs.Refusal.{number_of}
@@ -42,22 +45,22 @@ pub record Text (s : List ℕ) (at len next : ℕ) (rule : List ℕ → Bool) : 
   pub inside : next ≤ length s
 
 -- what is known of the token at a place of any bytes; a refusal is one of 2 to 5
-abbrev pub Tells : List ℕ → ℕ → Read → Type 0
-Tells s at (Number value next) = (Bytes s → is_number value ≡ true) × Spans (length s) at next
-Tells s at (Identifier len next) = Text s at len next (is_name Named)
-Tells s at (String count next) = Text s at count next (every Plain)
-Tells s at (Operator n next) = (Bytes s → n < 8192) × Spans (length s) at next
-Tells s at (Comment next) = Spans (length s) at next
-Tells s at (Unread refusal place) = (number_of refusal < 6) × (at ≤ length s → (at ≤ place) × (place ≤ length s))
+abbrev pub Tells : List ℕ → ℕ → Result Read Refused → Type 0
+Tells s at (Ok (Number value next)) = (Bytes s → is_number value ≡ true) × Spans (length s) at next
+Tells s at (Ok (Identifier len next)) = Text s at len next (is_name Named)
+Tells s at (Ok (String count next)) = Text s at count next (every Plain)
+Tells s at (Ok (Operator n next)) = (Bytes s → n < 8192) × Spans (length s) at next
+Tells s at (Ok (Comment next)) = Spans (length s) at next
+Tells s at (Err w) = (number_of w.refusal < 6) × (at ≤ length s → (at ≤ w.place) × (w.place ≤ length s))
 
 -- the same of bytes, at a place inside them or at their end
-abbrev pub Told : List ℕ → ℕ → Read → Type 0
-Told s at (Number value next) = (is_number value ≡ true) × Spans (length s) at next
-Told s at (Identifier len next) = Text s at len next (is_name Named)
-Told s at (String count next) = Text s at count next (every Plain)
-Told s at (Operator n next) = (n < 8192) × Spans (length s) at next
-Told s at (Comment next) = Spans (length s) at next
-Told s at (Unread refusal place) = (at ≤ place) × (place ≤ length s)
+abbrev pub Told : List ℕ → ℕ → Result Read Refused → Type 0
+Told s at (Ok (Number value next)) = (is_number value ≡ true) × Spans (length s) at next
+Told s at (Ok (Identifier len next)) = Text s at len next (is_name Named)
+Told s at (Ok (String count next)) = Text s at count next (every Plain)
+Told s at (Ok (Operator n next)) = (n < 8192) × Spans (length s) at next
+Told s at (Ok (Comment next)) = Spans (length s) at next
+Told s at (Err w) = (at ≤ w.place) × (w.place ≤ length s)
 
 -- ---- a sequence
 
@@ -70,9 +73,9 @@ module _ (s : List ℕ) (at : ℕ) (inside : at < length s) where
   number_tells next n d h = by_answer (ratio_of n d) refl
     where
       by_answer : (a : Answer) → ratio_of n d ≡ a → Tells s at (number_read at next (ratio_of n d))
-      by_answer (Is value) e = rw e ((λ f. number_ratio n d value e), h)
-      by_answer TooLarge e = rw e (omega arith, refused_here)
-      by_answer ByZero e = rw e (omega arith, refused_here)
+      by_answer (Ok value) e = rw e ((λ f. number_ratio n d value e), h)
+      by_answer (Err TooLarge) e = rw e (omega arith, refused_here)
+      by_answer (Err ByZero) e = rw e (omega arith, refused_here)
 
   -- data d that are the whole of the sequence
   module _ (d : List ℕ) (next : ℕ) (is_whole : joined_at s at ≡ whole d next) (longer : at + length d < next) (ends : next ≤ length s) where
@@ -114,8 +117,8 @@ token_tells s at = either (Tells s at) (ltb at (length s)) _ _ (λ e. here (ltb-
     e : ℕ
     e = get_or s (at + 1) 0
 
-    two : (t : Read) → (at + 2 ≤ length s → Tells s at t) → Tells s at (pair s at t)
-    two t g = either (Tells s at) (ltb (at + 1) (length s)) t (Unread CutOff at) (λ k. g (omega (arith, ltb-true (at + 1) (length s) k))) (λ _. (omega arith, (λ l. (omega arith, l))))
+    two : (t : Result Read Refused) → (at + 2 ≤ length s → Tells s at t) → Tells s at (pair s at t)
+    two t g = either (Tells s at) (ltb (at + 1) (length s)) t (Err (refusal_at CutOff at)) (λ k. g (omega (arith, ltb-true (at + 1) (length s) k))) (λ _. (omega arith, (λ l. (omega arith, l))))
 
     here : at < length s → Tells s at (token_of s at b e)
     here h =
@@ -124,13 +127,13 @@ token_tells s at = either (Tells s at) (ltb at (length s)) _ _ (λ e. here (ltb-
         (λ _. either (Tells s at) (ltb b 192) _ _ (λ _. two _ (λ k. ((λ f. omega (arith, f (at + 1), mod-lt b {m = 32} (lit< tt))), (omega arith, k))))
         (λ _. sequence_tells s at h (b % 32) (joined_at s at) refl (joined_ends s at h))))
 
-told_of : (s : List ℕ) (at : ℕ) (t : Read) → Bytes s → at ≤ length s → Tells s at t → Told s at t
-told_of s at (Number value next) f l h = (h.0 f, h.1)
-told_of s at (Identifier len next) f l h = h
-told_of s at (String count next) f l h = h
-told_of s at (Operator n next) f l h = (h.0 f, h.1)
-told_of s at (Comment next) f l h = h
-told_of s at (Unread refusal place) f l h = h.1 l
+told_of : (s : List ℕ) (at : ℕ) (t : Result Read Refused) → Bytes s → at ≤ length s → Tells s at t → Told s at t
+told_of s at (Ok (Number value next)) f l h = (h.0 f, h.1)
+told_of s at (Ok (Identifier len next)) f l h = h
+told_of s at (Ok (String count next)) f l h = h
+told_of s at (Ok (Operator n next)) f l h = (h.0 f, h.1)
+told_of s at (Ok (Comment next)) f l h = h
+told_of s at (Err w) f l h = h.1 l
 
 pub token_told : (s : List ℕ) (at : ℕ) → Bytes s → at ≤ length s → Told s at (token_at s at)
 token_told s at f l = told_of s at (token_at s at) f l (token_tells s at)

@@ -1,35 +1,39 @@
 -- A token told by its form, and a token passed over: for the contracts of forms.rt and passing.rt. Assumes nothing.
-use Rattle.std.specs.Prelude.{ℕ, ◌<◌, ◌≤◌, ◌≡◌, List, length, get_or, pos, ◌-ℤ◌}
-use Rattle.numbers.specs.declared.Answer.{Answer}
-use Rattle.numbers.specs.declared.Answer.TheVariants.{Is, TooLarge, ByZero}
+use Rattle.std.specs.Prelude.{ℕ, ◌<◌, ◌≤◌, ◌≡◌, List, length, get_or, pos, ◌-ℤ◌, Result, Ok, Err, Option, Some, None}
+use Rattle.numbers.specs.Fraction.{Answer}
+use Rattle.numbers.specs.declared.NoNumber.TheVariants.{TooLarge, ByZero}
 use Rattle.tokens.specs.declared.Read.{Read}
 use Rattle.tokens.specs.declared.Read.TheVariants as read
 use Rattle.tokens.specs.declared.Form.{Form}
-use Rattle.tokens.specs.declared.Form.TheVariants.{Number, Operator, Sequence, Cut}
-use Rattle.tokens.specs.declared.Pass.{Pass}
-use Rattle.tokens.specs.declared.Pass.TheVariants.{Over, Unread}
+use Rattle.tokens.specs.declared.Form.TheVariants.{Number, Operator, Sequence}
 use Rattle.tokens.specs.declared.Refusal.TheVariants.{CutOff}
+use Rattle.tokens.specs.declared.Refused.{Refused}
+use Rattle.tokens.specs.Refusal.{refusal_at}
 use Rattle.tokens.specs.Format.{bias}
 use Rattle.tokens.specs.Token.{token_at}
 
 -- what the form of the token at `at` tells of it
 abbrev pub Shows : List ℕ → ℕ → Form → Type 0
-Shows s at (Number raw next) = token_at s at ≡ read.Number (record { num = pos raw -ℤ pos bias; den = 1 }) next
-Shows s at (Operator n next) = token_at s at ≡ read.Operator n next
+Shows s at (Number raw next) = token_at s at ≡ Ok (read.Number (record { num = pos raw -ℤ pos bias; den = 1 }) next)
+Shows s at (Operator n next) = token_at s at ≡ Ok (read.Operator n next)
 Shows s at Sequence = (at < length s) × (192 ≤ get_or s at 0)
-Shows s at Cut = token_at s at ≡ read.Unread CutOff at
+
+-- the same where the first bytes tell; else the token is cut off
+abbrev pub ShowsIfAny : List ℕ → ℕ → Option Form → Type 0
+ShowsIfAny s at (Some f) = Shows s at f
+ShowsIfAny s at None = token_at s at ≡ Err (refusal_at CutOff at)
 
 -- a token passed over
-unfoldable pub pass_of : Read → Pass
-pass_of (read.Number value next) = Over next
-pass_of (read.Identifier len next) = Over next
-pass_of (read.String count next) = Over next
-pass_of (read.Operator n next) = Over next
-pass_of (read.Comment next) = Over next
-pass_of (read.Unread refusal place) = Unread refusal place
+unfoldable pub pass_of : Result Read Refused → Result ℕ Refused
+pass_of (Ok (read.Number value next)) = Ok next
+pass_of (Ok (read.Identifier len next)) = Ok next
+pass_of (Ok (read.String count next)) = Ok next
+pass_of (Ok (read.Operator n next)) = Ok next
+pass_of (Ok (read.Comment next)) = Ok next
+pass_of (Err w) = Err w
 
 -- there is such a number
 abbrev pub Answered : Answer → Type 0
-Answered (Is value) = Unit
-Answered TooLarge = ⊥
-Answered ByZero = ⊥
+Answered (Ok value) = Unit
+Answered (Err TooLarge) = ⊥
+Answered (Err ByZero) = ⊥

@@ -7,35 +7,38 @@ pub mod header; // the header of a master
 pub mod bits; // fields of a token's first bytes
 pub mod forms; // the form of the token at a place
 
-// Why an input is refused. specs/Refusal.antt has the numbers.
-#[derive(Clone, Copy)]
+// Why an input is refused, by its number (document 01, Outcomes and numbers).
+#[derive(Clone, Copy, Debug, PartialEq, Eq)]
 pub enum Refusal {
-    BadHeader,
-    CutOff,
-    TypeNotRead,
-    BadData,
-    NothingContinued,
-    NotAllowed,
-    AfterEnd,
-    TooDeep,
-    TooManyPages,
-    TooLong,
-    TableTooShort,
-    PreambleUnfinished,
-    NoSuchPage,
-    BadAllowance,
-    NotWritable,
-    NoRoom,
+    BadHeader = 1,
+    CutOff = 2,
+    TypeNotRead = 3,
+    BadData = 4,
+    NothingContinued = 5,
+    NotAllowed = 6,
+    AfterEnd = 7,
+    TooDeep = 8,
+    TooManyPages = 9,
+    TooLong = 10,
+    TableTooShort = 11,
+    PreambleUnfinished = 12,
+    NoSuchPage = 13,
+    BadAllowance = 14,
+    NotWritable = 15,
+    NoRoom = 16,
+}
+
+// A refusal and its place.
+#[derive(Clone, Copy, Debug, PartialEq, Eq)]
+pub struct Refused {
+    pub refusal: Refusal,
+    pub place: usize,
 }
 
 // What a public call answers.
-#[derive(Clone, Copy)]
-pub enum Outcome {
-    Done { value: usize },
-    Refused { refusal: Refusal, place: usize },
-}
+pub type Outcome = Result<usize, Refused>;
 
-// The token at a place, and the place after it; or the refusal met, and its place. A string's count is that of its elements.
+// The token at a place, and the place after it. A string's count is that of its elements.
 #[derive(Clone, Copy)]
 pub enum Read {
     Number { value: numbers::Number, next: usize },
@@ -43,23 +46,14 @@ pub enum Read {
     String { count: usize, next: usize },
     Operator { number: u16, next: usize },
     Comment { next: usize },
-    Unread { refusal: Refusal, place: usize },
 }
 
-// The form of the token at a place, by its first byte: a short number with its 15 bits, an operator, a sequence; or cut off.
+// The form of the token at a place, by its first byte: a short number with its 15 bits, an operator, a sequence.
 #[derive(Clone, Copy)]
 pub enum Form {
     Number { raw: u16, next: usize },
     Operator { number: u16, next: usize },
     Sequence,
-    Cut,
-}
-
-// A token passed over: the place after it; or the refusal met, and its place.
-#[derive(Clone, Copy)]
-pub enum Pass {
-    Over { next: usize },
-    Unread { refusal: Refusal, place: usize },
 }
 
 // What a byte of a text must be.
@@ -71,11 +65,11 @@ pub enum Rule {
     Lowered,
 }
 
-// Where the data of a sequence token lie, if the input has them all.
+// Where the data of a sequence token lie.
 #[derive(Clone, Copy)]
-pub enum Piece {
-    Data { start: usize, len: usize },
-    Missing,
+pub struct Piece {
+    pub start: usize,
+    pub len: usize,
 }
 
 // What is kept of joined data: their number, the first of them, the value of the first eight where it matters, whether each obeys
@@ -88,9 +82,9 @@ pub struct Summary {
     pub good: bool,
 }
 
-// Joined data and the place after them; or the place of a continued token that is cut off.
+// Joined data, and the place after them.
 #[derive(Clone, Copy)]
-pub enum Gathered {
-    Whole { sum: Summary, next: usize },
-    Broken { place: usize },
+pub struct Gathered {
+    pub sum: Summary,
+    pub next: usize,
 }

@@ -1,37 +1,24 @@
 // Refusals and answers as numbers.
 ghost use Rattle.std.specs.Prelude.{◌≡◌};
-ghost use Rattle.tokens.specs.declared.Outcome.TheVariants.{Refused};
-ghost use Rattle.tokens.specs.Refusal.{number_of, answer_number, answer_value};
+ghost use Rattle.tokens.specs.Refusal.{number_of, refusal_at, answer_number, answer_value};
 
-use crate::{Outcome, Refusal};
+use crate::{Outcome, Refusal, Refused};
 
-pub fn number(refusal: Refusal) -> u32
-    ensures { result ≡ number_of refusal }
-{
-    match refusal {
-        Refusal::BadHeader => 1,
-        Refusal::CutOff => 2,
-        Refusal::TypeNotRead => 3,
-        Refusal::BadData => 4,
-        Refusal::NothingContinued => 5,
-        Refusal::NotAllowed => 6,
-        Refusal::AfterEnd => 7,
-        Refusal::TooDeep => 8,
-        Refusal::TooManyPages => 9,
-        Refusal::TooLong => 10,
-        Refusal::TableTooShort => 11,
-        Refusal::PreambleUnfinished => 12,
-        Refusal::NoSuchPage => 13,
-        Refusal::BadAllowance => 14,
-        Refusal::NotWritable => 15,
-        Refusal::NoRoom => 16,
+impl Refusal {
+    pub fn number(self) -> u32
+        ensures { result ≡ number_of self }
+    {
+        self as u32
     }
-}
 
-pub fn refused(refusal: Refusal, place: usize) -> Outcome
-    ensures { result ≡ Refused refusal place }
-{
-    Outcome::Refused { refusal, place }
+    pub fn met_at(self, place: usize) -> Refused
+        ensures { result ≡ refusal_at self place }
+    {
+        Refused {
+            refusal: self,
+            place,
+        }
+    }
 }
 
 // 0 where the call is done.
@@ -39,8 +26,8 @@ pub fn answer_number(outcome: Outcome) -> u32
     ensures { result ≡ answer_number outcome }
 {
     match outcome {
-        Outcome::Done { value: _ } => 0,
-        Outcome::Refused { refusal, place: _ } => number(refusal),
+        Ok(_) => 0,
+        Err(refused) => refused.refusal.number(),
     }
 }
 
@@ -48,7 +35,7 @@ pub fn answer_value(outcome: Outcome) -> usize
     ensures { result ≡ answer_value outcome }
 {
     match outcome {
-        Outcome::Done { value } => value,
-        Outcome::Refused { refusal: _, place } => place,
+        Ok(value) => value,
+        Err(refused) => refused.place,
     }
 }

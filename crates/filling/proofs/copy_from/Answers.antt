@@ -1,11 +1,12 @@
 -- `copy_from` meets its contract: what is copied and what continues from `at` on are the whole data. Assumes nothing.
+use Rattle.std.specs.Prelude.{Some}
+use Rattle.tokens.specs.Joined.{piece_from}
 use mathlib.Core.Path.{◌≡◌, refl, sym, ◌∙◌}
 use mathlib.Core.List.{[], ◌++◌}
 use Prim.Native.Nat.{ℕ, ◌+◌, ◌-◌}
 use native.Mathlib.Omega.{arith}
 use lib.ListN.{length}
 use lib.Seq.{slice}
-use Rattle.tokens.specs.declared.Piece.TheVariants.{Data}
 use Rattle.tokens.specs.Joined.{continuing}
 use Rattle.tokens.proofs.Copying.{as_found, none_left, copied_end, piece_fits, copied_next}
 use Rattle.filling.specs.Filling.{shown}
@@ -13,7 +14,7 @@ use Rattle.filling.proofs.Copying.{shows}
 use Rattle.filling.proofs.copy_from.Goals as goal
 use Rattle.filling.proofs.copy_from.Goals.{In-Data}
 
-here : (c : In-Data) → continuing c.args.s.now c.loop-at.at ≡ Data c.in-Data.from c.in-Data.more
+here : (c : In-Data) → continuing c.args.s.now c.loop-at.at ≡ Some (piece_from c.in-Data.from c.in-Data.more)
 here c = sym c.next_piece.ensures ∙ c.in-Data.is
 
 pub loop-at-init : goal.loop-at-init

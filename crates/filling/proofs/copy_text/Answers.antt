@@ -1,9 +1,10 @@
 -- `copy_text` meets its contract: the first piece, then all that continue it. Assumes nothing.
+use Rattle.std.specs.Prelude.{Some}
+use Rattle.tokens.specs.Joined.{piece_from}
 use mathlib.Core.Path.{◌≡◌, sym, subst, ◌∙◌}
 use Prim.Native.Nat.{ℕ, ◌+◌, ◌≤◌}
 use native.Mathlib.Omega.{arith}
 use lib.ListN.{length}
-use Rattle.tokens.specs.declared.Piece.TheVariants.{Data}
 use Rattle.tokens.specs.Joined.{piece_at, FitsText, continuations}
 use Rattle.tokens.proofs.Copying.{not_missing, first_fits, text_whole}
 use Rattle.filling.specs.Filling.{shown}
@@ -11,7 +12,7 @@ use Rattle.filling.proofs.Copying.{shows}
 use Rattle.filling.proofs.copy_text.Goals as goal
 use Rattle.filling.proofs.copy_text.Goals.{In-Data}
 
-here : (c : In-Data) → piece_at c.args.s.now c.args.at ≡ Data c.in-Data.start c.in-Data.len
+here : (c : In-Data) → piece_at c.args.s.now c.args.at ≡ Some (piece_from c.in-Data.start c.in-Data.len)
 here c = sym c.piece_at.ensures ∙ c.in-Data.is
 
 begun : (c : In-Data) → let a = c.args in let f = c.in-Data.start in let m = c.in-Data.len in

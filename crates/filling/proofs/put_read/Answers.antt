@@ -1,4 +1,6 @@
 -- `put_read` meets its contract, kind by kind. Assumes nothing.
+use Rattle.std.specs.Prelude.{Result}
+use Rattle.tokens.specs.declared.Refused.{Refused}
 use Prim.Native.Nat.{ℕ, ◌<◌, ◌≤◌}
 use lib.ListN.{length, get_or}
 use mathlib.Core.List.{List}
@@ -13,7 +15,7 @@ use Rattle.filling.proofs.Placing.{IsText, identifier_is, string_is, number_room
 use Rattle.filling.proofs.put_read.Goals as goal
 use Rattle.filling.proofs.put_read.Goals.{In-Identifier, In-String}
 
-known : (s : List ℕ) (at : ℕ) (t : Read) → ((i : ℕ) → get_or s i 0 < 256) → at ≤ length s → t ≡ token_at s at → Told s at t
+known : (s : List ℕ) (at : ℕ) (t : Result Read Refused) → ((i : ℕ) → get_or s i 0 < 256) → at ≤ length s → t ≡ token_at s at → Told s at t
 known s at t b h e = subst (Told s at) (sym e) (token_says s at b h)
 
 name : (c : In-Identifier) → let a = c.args in IsText a.s.now a.at a.t true 2 c.in-Identifier.len c.in-Identifier.next

@@ -1,7 +1,7 @@
 -- 2.4.9, by the definitions of `numbers`. Assumes nothing.
 use Rattle.std.specs.Prelude.{ℕ}
 use Rattle.numbers.specs.declared.Number as num
-use Rattle.numbers.specs.declared.Answer.{Answer}
+use Rattle.numbers.specs.Fraction.{Answer}
 use Rattle.numbers.specs.Arith.{sum_of, difference_of, product_of, quotient_of, negative_of, size_of, floor_of, ceiling_of, trunc_of, round_of, mod_of, rem_of}
 use Rattle.machine.specs.declared.Value.{Value}
 use Rattle.machine.specs.declared.ArithOp.{ArithOp}

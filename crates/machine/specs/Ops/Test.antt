@@ -1,8 +1,8 @@
 -- 2.4.8. Assumes nothing.
 use Rattle.std.specs.Prelude.{ℕ, Bool, true, false, not, ◌&&◌, ◌||◌, eqb}
 use Rattle.numbers.specs.declared.Number as num
-use Rattle.numbers.specs.declared.Order.{Order}
-use Rattle.numbers.specs.declared.Order.TheVariants.{Less, Equal, Greater}
+use Rattle.std.specs.declared.cmp.Ordering.{Ordering}
+use Rattle.std.specs.declared.cmp.Ordering.TheVariants.{Less, Equal, Greater}
 use Rattle.numbers.specs.Arith.{order_of}
 use Rattle.machine.specs.declared.Value.{Value}
 use Rattle.machine.specs.declared.Value.TheVariants.{Number, Identifier, Vector, Operator}
@@ -23,12 +23,12 @@ test_arity Or = 2
 test_arity Not = 1
 test_arity TypeOf = 1
 
-unfoldable pub is_less : Order → Bool
+unfoldable pub is_less : Ordering → Bool
 is_less Less = true
 is_less Equal = false
 is_less Greater = false
 
-unfoldable pub is_equal : Order → Bool
+unfoldable pub is_equal : Ordering → Bool
 is_equal Less = false
 is_equal Equal = true
 is_equal Greater = false

@@ -1,5 +1,6 @@
 -- `pass_sequence` meets its contract: one piece that is sound, or the token as it is read. Assumes nothing.
-use Rattle.tokens.specs.declared.Piece.TheVariants.{Data}
+use Rattle.std.specs.Prelude.{Some}
+use Rattle.tokens.specs.Joined.{piece_from}
 use Rattle.tokens.specs.Passing.{pass_of}
 use Rattle.tokens.proofs.OnePiece.{one_piece}
 use Rattle.tokens.proofs.Pieces.{Inside, inside}
@@ -12,13 +13,13 @@ use Rattle.passing.proofs.pass_sequence.Goals as goal
 pub overflow_add-next : goal.overflow_add-next
 overflow_add-next c =
     let a = c.args in
-    let w : Inside (length a.s.now) a.at (Data c.in-Data.start c.in-Data.len) = rw (← c.piece_at.ensures, c.in-Data.is) at (inside a.s.now a.at) in
+    let w : Inside (length a.s.now) a.at (Some (piece_from c.in-Data.start c.in-Data.len)) = rw (← c.piece_at.ensures, c.in-Data.is) at (inside a.s.now a.at) in
     omega (arith, w.1, c.well_formed)
 
 pub is_sound-requires : goal.is_sound-requires
 is_sound-requires c =
     let a = c.args in
-    let w : Inside (length a.s.now) a.at (Data c.in-Data.start c.in-Data.len) = rw (← c.piece_at.ensures, c.in-Data.is) at (inside a.s.now a.at) in
+    let w : Inside (length a.s.now) a.at (Some (piece_from c.in-Data.start c.in-Data.len)) = rw (← c.piece_at.ensures, c.in-Data.is) at (inside a.s.now a.at) in
     w.1
 
 pub returns-then-is_sound : goal.returns-then-is_sound

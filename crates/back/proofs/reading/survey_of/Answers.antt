@@ -1,4 +1,6 @@
 -- `reading::survey_of` meets its contract: what is counted and what is left from `at` on are the whole list. Assumes nothing.
+use Rattle.std.specs.Prelude.{Result}
+use Rattle.tokens.specs.declared.Refused.{Refused}
 use Rattle.tokens.specs.declared.Read.{Read}
 use Rattle.lists.specs.declared.Step.{Step}
 use lib.ListN.{get_or}
@@ -15,7 +17,7 @@ use Rattle.filling.proofs.Surveying.{Steps, steps, Goes, survey_end, survey_stop
 use Rattle.back.proofs.reading.survey_of.Goals as goal
 use Rattle.back.proofs.reading.survey_of.Goals.{In-Go}
 
-stepped : (s : List ℕ) (at : ℕ) (t : Read) (r : Step) → ((i : ℕ) → get_or s i 0 < 256) → at ≤ length s → t ≡ token_at s at → r ≡ step_of t → Steps s at (token_at s at) r
+stepped : (s : List ℕ) (at : ℕ) (t : Result Read Refused) (r : Result Step Refused) → ((i : ℕ) → get_or s i 0 < 256) → at ≤ length s → t ≡ token_at s at → r ≡ step_of t → Steps s at (token_at s at) r
 stepped s at t r b h e f = subst (Steps s at (token_at s at)) (sym (f ∙ ap step_of e)) (steps s at (token_at s at) (token_says s at b h))
 
 gone : (c : In-Go) → let s = c.args.s.now in let at = c.loop-at.at in Goes s at (token_at s at) c.in-Go.adds c.in-Go.text c.in-Go.next

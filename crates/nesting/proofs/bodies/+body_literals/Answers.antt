@@ -1,5 +1,6 @@
 -- `bodies::body` and `bodies::literals`, which call each other, meet their contracts: the bytes left fall at each call, and in the loop over
 -- a body's literals those from here on end as all of them do. Assumes nothing.
+use Rattle.std.specs.Prelude.{Ok}
 use mathlib.Core.Path.{refl, ap, ◌∙◌}
 use native.Mathlib.Nat.{le_refl}
 use native.Mathlib.Omega.{arith}
@@ -7,7 +8,6 @@ use lib.ListN.{length}
 use Rattle.tokens.specs.declared.Refusal.TheVariants.{TooDeep}
 use Rattle.machine.proofs.Inside.{WentIn, due_inside, solid_past}
 use Rattle.machine.specs.Skeleton.{opening, solid, held}
-use Rattle.machine.specs.declared.Went.TheVariants.{Past, Stop}
 use Rattle.nesting.proofs.BodyTurns.{shorter, onward, ended, refused, operator_ends, number_on, plain_on, closing, barred, holding, passed, passed_by, cut, due_there, stopped, full, entered}
 use Rattle.passing.proofs.Knowing.{sequence_shown}
 use Rattle.nesting.proofs.bodies.+body_literals.Goals as goal
@@ -20,7 +20,7 @@ pub body-literals-requires : goal.body-literals-requires
 body-literals-requires t c =
     let a = c.args in
     let e = due_there _ _ _ _ _ c.past_comments-q.ensures c.due_here.ensures ∙ c.in-Past.is in
-    let g : WentIn (length a.s.now) (solid a.s.now a.at) (Past c.in-Past.next) = rw e at (due_inside opening a.s.now a.at) in
+    let g : WentIn (length a.s.now) (solid a.s.now a.at) (Ok c.in-Past.next) = rw e at (due_inside opening a.s.now a.at) in
     (omega (arith, g.0, g.1, solid_past a.s.now a.at), tt)
 
 pub body-returns-else-left-eq0 : goal.body-returns-else-left-eq0

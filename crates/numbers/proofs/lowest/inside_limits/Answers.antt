@@ -1,9 +1,9 @@
 -- `numbers::lowest::inside_limits` meets its contract: test by test. Assumes nothing.
+use Rattle.std.specs.Prelude.{Ok}
 use mathlib.Core.Path.{ap, ◌∙◌}
 use native.Mathlib.Omega.{arith}
 use mir.Facts.{to_z-of_z}
 use mir.Syntax.{w32}
-use Rattle.numbers.specs.declared.Answer.TheVariants.{Is}
 use Rattle.numbers.proofs.Limits.{size_over, den_over, inside}
 use Rattle.numbers.proofs.lowest.inside_limits.Goals as goal
 
@@ -23,4 +23,4 @@ overflow_cast-result c = omega arith
 
 pub returns : goal.returns
 returns c =
-    let a = c.args in ap (λ z. Is (record { num = z; den = a.den })) (to_z-of_z {w = w32} (record { sfits = c.short_number.type_inv }) ∙ c.short_number.ensures) ∙ inside a.below a.size a.den (omega arith) (omega arith)
+    let a = c.args in ap (λ z. Ok (record { num = z; den = a.den })) (to_z-of_z {w = w32} (record { sfits = c.short_number.type_inv }) ∙ c.short_number.ensures) ∙ inside a.below a.size a.den (omega arith) (omega arith)

@@ -1,13 +1,14 @@
 -- A piece lies past its token's start and inside the bytes.
+use Rattle.std.specs.Prelude.{Option, Some}
+use Rattle.tokens.specs.Joined.{piece_from}
 use Rattle.std.proofs.Common.{arith, ◌≡◌, ℕ, ◌+◌, ◌<◌, ◌≤◌, length, List}
 use mathlib.Core.Path.{sym, subst, ◌∙◌}
 use Rattle.tokens.specs.declared.Piece.{Piece}
-use Rattle.tokens.specs.declared.Piece.TheVariants.{Data}
 use Rattle.tokens.specs.Joined.{piece_at}
 use Rattle.tokens.proofs.Pieces.{Inside, inside}
 use Rattle.pages.proofs.values.put_name.Goals as goal
 
-piece_in : (s : List ℕ) (at : ℕ) {f m : ℕ} {x : Piece} → x ≡ piece_at s at → x ≡ Data f m → (at < f) × (f + m ≤ length s)
+piece_in : (s : List ℕ) (at : ℕ) {f m : ℕ} {x : Option Piece} → x ≡ piece_at s at → x ≡ Some (piece_from f m) → (at < f) × (f + m ≤ length s)
 piece_in s at e d = subst (Inside (length s) at) (sym e ∙ d) (inside s at)
 
 pub overflow_add-q : goal.overflow_add-q

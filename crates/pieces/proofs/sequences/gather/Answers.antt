@@ -1,11 +1,12 @@
 -- The loop over the continued tokens: what is kept is the summary of the data joined so far, and the rest from here is the whole.
 -- Assumes nothing.
+use Rattle.std.specs.Prelude.{Some}
+use Rattle.tokens.specs.Joined.{piece_from}
 use lib.ListN.{length, length-append}
 use Rattle.tokens.proofs.Turns.{ended, broken, went, at_end_lem}
 use Rattle.tokens.proofs.Summaries.{summary_append, summary_first, summary_length, part_length}
 use Rattle.tokens.proofs.Pieces.{Inside, inside}
 use Rattle.tokens.specs.Inner.{added}
-use Rattle.tokens.specs.declared.Piece.TheVariants.{Data}
 use lib.Seq.{slice}
 use mathlib.Core.List.{◌++◌}
 use Prim.Native.Nat.{ℕ, ◌+◌, ◌-◌, ◌<◌, ◌≤◌}
@@ -17,7 +18,7 @@ use Rattle.pieces.proofs.sequences.gather.Goals.{In-Data}
 -- the piece that continues lies past its token's start and inside the input
 part : (c : In-Data) → (c.loop-at.at < c.in-Data.from) × (c.in-Data.from + c.in-Data.more ≤ length c.args.s.now)
 part c =
-    let w : Inside (length c.args.s.now) c.loop-at.at (Data c.in-Data.from c.in-Data.more) = rw (← c.piece_at.ensures, c.in-Data.is) at (inside c.args.s.now c.loop-at.at) in
+    let w : Inside (length c.args.s.now) c.loop-at.at (Some (piece_from c.in-Data.from c.in-Data.more)) = rw (← c.piece_at.ensures, c.in-Data.is) at (inside c.args.s.now c.loop-at.at) in
     w
 
 pub take_piece-sum-requires : goal.take_piece-sum-requires

@@ -1,4 +1,9 @@
 -- `reading::sequence_at` meets its contract: no piece, a piece that nothing continues, or joined pieces. Assumes nothing.
+use Rattle.std.specs.Prelude.{Ok, Err, Some}
+use Rattle.tokens.specs.Refusal.{refusal_at}
+use Rattle.tokens.specs.Joined.{piece_from}
+use Rattle.tokens.specs.Inner.{gathered}
+use Rattle.tokens.specs.declared.Refusal.TheVariants.{CutOff}
 use Rattle.tokens.proofs.Ends.{joined_bytes}
 use Rattle.tokens.proofs.Judged.{sequence_whole, sequence_broken}
 use Rattle.tokens.proofs.OnePiece.{sequence_one}
@@ -7,8 +12,6 @@ use Rattle.table.proofs.WordLists.{Bytes}
 use Rattle.tokens.specs.Inner.{gathered_of, judged_by}
 use Rattle.tokens.specs.Token.{judged, sequence}
 use Rattle.tokens.specs.Joined.{joined_at, piece_at}
-use Rattle.tokens.specs.declared.Gathered.TheVariants.{Whole, Broken}
-use Rattle.tokens.specs.declared.Piece.TheVariants.{Data}
 use Prim.Native.Nat.{ℕ, ◌+◌, ◌%◌, ◌≤◌}
 use lib.ListN.{length, get_or}
 use lib.Seq.{slice}
@@ -17,13 +20,13 @@ use mathlib.Core.Path.{◌≡◌, sym, ap, ◌∙◌}
 use Rattle.reader.proofs.reading.sequence_at.Goals as goal
 use Rattle.reader.proofs.reading.sequence_at.Goals.{In-Data}
 
-data_is : (c : In-Data) → piece_at c.args.s.now c.args.at ≡ Data c.in-Data.start c.in-Data.len
+data_is : (c : In-Data) → piece_at c.args.s.now c.args.at ≡ Some (piece_from c.in-Data.start c.in-Data.len)
 data_is c = sym c.piece_at.ensures ∙ c.in-Data.is
 
 ends : (c : In-Data) → c.in-Data.start + c.in-Data.len ≤ length c.args.s.now
 ends c =
     let a = c.args in
-    let w : Inside (length a.s.now) a.at (Data c.in-Data.start c.in-Data.len) = rw (data_is c) at (inside a.s.now a.at) in
+    let w : Inside (length a.s.now) a.at (Some (piece_from c.in-Data.start c.in-Data.len)) = rw (data_is c) at (inside a.s.now a.at) in
     w.1
 
 -- ---- what is answered
@@ -56,7 +59,7 @@ returns-in-Broken c =
     let a = c.args in
     let k : ℕ = get_or a.s.now a.at 0 % 32 in
     let j = joined_data a.s.now a.at _ _ (data_is (goal.at.returns-in-Broken c).In-Data) in
-    let g : gathered_of k (joined_at a.s.now a.at) ≡ Broken c.in-Broken.place = rw (j, ← c.low5-k.ensures) (sym c.gather.ensures.0 ∙ c.in-Broken.is) in
+    let g : gathered_of k (joined_at a.s.now a.at) ≡ Err (refusal_at CutOff c.in-Broken.place) = rw (j, ← c.low5-k.ensures) (sym c.gather.ensures.0 ∙ c.in-Broken.is) in
     c.cut_off-in-Broken.ensures ∙ sequence_broken k a.at (joined_at a.s.now a.at) _ g
 
 pub judge-requires : goal.judge-requires
@@ -67,6 +70,6 @@ returns-in-Whole c =
     let a = c.args in
     let k : ℕ = get_or a.s.now a.at 0 % 32 in
     let j = joined_data a.s.now a.at _ _ (data_is (goal.at.returns-in-Whole c).In-Data) in
-    let g : gathered_of k (joined_at a.s.now a.at) ≡ Whole c.in-Whole.sum c.in-Whole.next = rw (j, ← c.low5-k.ensures) (sym c.gather.ensures.0 ∙ c.in-Whole.is) in
+    let g : gathered_of k (joined_at a.s.now a.at) ≡ Ok (gathered c.in-Whole.sum c.in-Whole.next) = rw (j, ← c.low5-k.ensures) (sym c.gather.ensures.0 ∙ c.in-Whole.is) in
     let s : Bytes a.s.now = (λ i. omega (arith, c.type_inv.s i)) in
     c.judge.ensures ∙ ap (λ (t : ℕ). judged_by t a.at c.in-Whole.sum c.in-Whole.next) c.low5-k.ensures ∙ sequence_whole k a.at (joined_at a.s.now a.at) _ _ (joined_bytes a.s.now a.at s) g
