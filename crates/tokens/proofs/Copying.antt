@@ -188,10 +188,10 @@ unfolding gathered_of summary_of data_of
 size_of t (whole d n) g next e = let f : gathered (summary_of t d) n ≡ gathered g next = cc in ap (λ (x : Gathered). x.sum.len) (sym f)
 size_of t (cut_at place) g next e = let z : ◌≡◌ {A = ℕ} 0 1 = cc in absurd (omega arith)
 
-none_cut : (t : ℕ) (J : Joined) (place : ℕ) → gathered_of t J ≡ Err (refusal_at CutOff place) → 0 ≡ length (data_of J)
+none_cut : (t : ℕ) (J : Joined) (w : Refused) → gathered_of t J ≡ Err w → 0 ≡ length (data_of J)
 unfolding gathered_of data_of
-none_cut t (whole d n) place e = let z : ◌≡◌ {A = ℕ} 0 1 = cc in absurd (omega arith)
-none_cut t (cut_at p) place e = refl
+none_cut t (whole d n) w e = let z : ◌≡◌ {A = ℕ} 0 1 = cc in absurd (omega arith)
+none_cut t (cut_at p) w e = refl
 
 -- in one piece
 module _ (s : List ℕ) (at f n : ℕ) (p : piece_at s at ≡ Some (piece_from f n)) (h : continued (get_or s (f + n) 0) ≡ false) where
@@ -206,8 +206,8 @@ module _ (s : List ℕ) (at f n t : ℕ) (r : Result Gathered Refused) (p : piec
   pub size_whole : {g : Summary} {next : ℕ} → r ≡ Ok (gathered g next) → g.len ≡ length (data_of (joined_at s at))
   size_whole {g} {next} h = rw (joined_data s at f n p) (size_of t _ g next (sym e ∙ h))
 
-  pub size_cut : {place : ℕ} → r ≡ Err (refusal_at CutOff place) → 0 ≡ length (data_of (joined_at s at))
-  size_cut {place} h = rw (joined_data s at f n p) (none_cut t _ place (sym e ∙ h))
+  pub size_cut : {w : Refused} → r ≡ Err w → 0 ≡ length (data_of (joined_at s at))
+  size_cut {w} h = rw (joined_data s at f n p) (none_cut t _ w (sym e ∙ h))
 
 bytes_append : (d e : List ℕ) → Bytes d → Bytes e → Bytes (d ++ e)
 bytes_append [] e f g i = g i

@@ -14,6 +14,7 @@ use borrow.Author.Tests.{eqb-true}
 use Rattle.numbers.specs.Fraction.{ratio_of}
 use Rattle.tokens.specs.declared.Gathered.{Gathered}
 use Rattle.tokens.specs.declared.Refusal.TheVariants.{CutOff, BadData}
+use Rattle.tokens.specs.declared.Refused.{Refused}
 use Rattle.tokens.specs.declared.Summary.{Summary}
 use Rattle.tokens.specs.Bytes.{value_after, signed_of}
 use Rattle.tokens.specs.Text.{is_name}
@@ -70,7 +71,7 @@ sequence_whole k at (whole d n) g next b e =
     rw (← p, ← q) (judged_is k at d n b)
 sequence_whole k at (cut_at place) g next b e = cc
 
-pub sequence_broken : (k at : ℕ) (J : Joined) (place : ℕ) → gathered_of k J ≡ Err (refusal_at CutOff place) → Err (refusal_at CutOff place) ≡ sequence k at J
+pub sequence_broken : (k at : ℕ) (J : Joined) (w : Refused) → gathered_of k J ≡ Err w → Err w ≡ sequence k at J
 unfolding gathered_of sequence
-sequence_broken k at (whole d n) place e = cc
-sequence_broken k at (cut_at p) place e = cc
+sequence_broken k at (whole d n) w e = cc
+sequence_broken k at (cut_at p) w e = cc

@@ -8,23 +8,23 @@ use Rattle.pieces.proofs.sequences.data_size.Goals as goal
 pub returns-then-at-s : goal.returns-then-at-s
 returns-then-at-s c = none_past _ _ (omega arith)
 
-pub returns-in-Missing : goal.returns-in-Missing
-returns-in-Missing c = none_missing _ _ (sym c.piece_at.ensures ∙ c.in-Missing.is)
+pub returns-in_default : goal.returns-in_default
+returns-in_default c = none_missing _ _ (sym c.piece_at.ensures ∙ c.in_default.is)
 
 pub overflow_add-start : goal.overflow_add-start
 overflow_add-start c =
-    omega (arith, (subst (Inside (length c.args.s.now) c.args.at) (sym c.piece_at.ensures ∙ c.in-Data.is) (inside c.args.s.now c.args.at)).1, c.well_formed)
+    omega (arith, (subst (Inside (length c.args.s.now) c.args.at) (sym c.piece_at.ensures ∙ c.in-Some.is) (inside c.args.s.now c.args.at)).1, c.well_formed)
 
 pub returns-then-not-is_continued_at : goal.returns-then-not-is_continued_at
 returns-then-not-is_continued_at c =
-    size_one _ _ _ _ (sym c.piece_at.ensures ∙ c.in-Data.is) (sym c.is_continued_at.ensures ∙ c.if-not-is_continued_at.true) (subst (Inside (length c.args.s.now) c.args.at) (sym c.piece_at.ensures ∙ c.in-Data.is) (inside c.args.s.now c.args.at)).1
+    size_one _ _ _ _ (sym c.piece_at.ensures ∙ c.in-Some.is) (sym c.is_continued_at.ensures ∙ c.if-not-is_continued_at.true) (subst (Inside (length c.args.s.now) c.args.at) (sym c.piece_at.ensures ∙ c.in-Some.is) (inside c.args.s.now c.args.at)).1
 
 pub gather-requires : goal.gather-requires
 gather-requires c =
-    (subst (Inside (length c.args.s.now) c.args.at) (sym c.piece_at.ensures ∙ c.in-Data.is) (inside c.args.s.now c.args.at)).1
+    (subst (Inside (length c.args.s.now) c.args.at) (sym c.piece_at.ensures ∙ c.in-Some.is) (inside c.args.s.now c.args.at)).1
 
-pub returns-in-Broken : goal.returns-in-Broken
-returns-in-Broken c = size_cut _ _ _ _ 31 _ (sym c.piece_at.ensures ∙ c.in-Data.is) c.gather.ensures.0 c.in-Broken.is
+pub returns-in-Err : goal.returns-in-Err
+returns-in-Err c = size_cut _ _ _ _ 31 _ (sym c.piece_at.ensures ∙ c.in-Some.is) c.gather.ensures.0 c.in-Err.is
 
-pub returns-in-Whole : goal.returns-in-Whole
-returns-in-Whole c = size_whole _ _ _ _ 31 _ (sym c.piece_at.ensures ∙ c.in-Data.is) c.gather.ensures.0 c.in-Whole.is
+pub returns-in-Ok : goal.returns-in-Ok
+returns-in-Ok c = size_whole _ _ _ _ 31 _ (sym c.piece_at.ensures ∙ c.in-Some.is) c.gather.ensures.0 c.in-Ok.is

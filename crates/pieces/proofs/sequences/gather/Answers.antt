@@ -1,6 +1,6 @@
 -- The loop over the continued tokens: what is kept is the summary of the data joined so far, and the rest from here is the whole.
 -- Assumes nothing.
-use Rattle.std.specs.Prelude.{Some}
+use Rattle.std.specs.Prelude.{Some, Err}
 use Rattle.tokens.specs.Joined.{piece_from}
 use lib.ListN.{length, length-append}
 use Rattle.tokens.proofs.Turns.{ended, broken, went, at_end_lem}
@@ -13,12 +13,12 @@ use Prim.Native.Nat.{ℕ, ◌+◌, ◌-◌, ◌<◌, ◌≤◌}
 use native.Mathlib.Omega.{arith}
 use mathlib.Core.Path.{refl, sym, ap, ◌∙◌}
 use Rattle.pieces.proofs.sequences.gather.Goals as goal
-use Rattle.pieces.proofs.sequences.gather.Goals.{In-Data}
+use Rattle.pieces.proofs.sequences.gather.Goals.{In-Some}
 
 -- the piece that continues lies past its token's start and inside the input
-part : (c : In-Data) → (c.loop-at.at < c.in-Data.from) × (c.in-Data.from + c.in-Data.more ≤ length c.args.s.now)
+part : (c : In-Some) → (c.loop-at.at < c.in-Some.piece.start) × (c.in-Some.piece.start + c.in-Some.piece.len ≤ length c.args.s.now)
 part c =
-    let w : Inside (length c.args.s.now) c.loop-at.at (Some (piece_from c.in-Data.from c.in-Data.more)) = rw (← c.piece_at.ensures, c.in-Data.is) at (inside c.args.s.now c.loop-at.at) in
+    let w : Inside (length c.args.s.now) c.loop-at.at (Some (piece_from c.in-Some.piece.start c.in-Some.piece.len)) = rw (← c.piece_at.ensures, c.in-Some.is) at (inside c.args.s.now c.loop-at.at) in
     w
 
 pub take_piece-sum-requires : goal.take_piece-sum-requires
@@ -49,50 +49,50 @@ returns-then-not-is_continued c =
 pub piece_at-requires : goal.piece_at-requires
 piece_at-requires c = omega arith
 
-pub returns-in-Missing : goal.returns-in-Missing
-returns-in-Missing c =
+pub returns-in_default : goal.returns-in_default
+returns-in_default c =
     let a = c.args in
     let o = c.loop-at in
     let i = o.invariant in
-    (broken a.k _ i.0 a.s.now o.at i.1 i.6 i.7 (sym c.is_continued.ensures ∙ c.if-not-is_continued.false) (sym c.piece_at.ensures ∙ c.in-Missing.is), tt)
+    (ap Err c.met_at.ensures ∙ broken a.k _ i.0 a.s.now o.at i.1 i.6 i.7 (sym c.is_continued.ensures ∙ c.if-not-is_continued.false) (sym c.piece_at.ensures ∙ c.in_default.is), tt)
 
-pub take_piece-sum-requires-in-Data : goal.take_piece-sum-requires-in-Data
-take_piece-sum-requires-in-Data c =
+pub take_piece-sum-requires-in-loop-at : goal.take_piece-sum-requires-in-loop-at
+take_piece-sum-requires-in-loop-at c =
     let a = c.args in
     let i = c.loop-at.invariant in
-    (omega (arith, (part (goal.at.take_piece-sum-requires-in-Data c).In-Data).0, (part (goal.at.take_piece-sum-requires-in-Data c).In-Data).1, i.4, c.well_formed), i.3, omega (arith, (part (goal.at.take_piece-sum-requires-in-Data c).In-Data).1))
+    (omega (arith, (part (goal.at.take_piece-sum-requires-in-loop-at c).In-Some).0, (part (goal.at.take_piece-sum-requires-in-loop-at c).In-Some).1, i.4, c.well_formed), i.3, omega (arith, (part (goal.at.take_piece-sum-requires-in-loop-at c).In-Some).1))
 
-pub overflow_add-at-in-Data : goal.overflow_add-at-in-Data
-overflow_add-at-in-Data c =
+pub overflow_add-at-in-loop-at : goal.overflow_add-at-in-loop-at
+overflow_add-at-in-loop-at c =
     let a = c.args in
-    omega (arith, (part (goal.at.overflow_add-at-in-Data c).In-Data).1, c.well_formed)
+    omega (arith, (part (goal.at.overflow_add-at-in-loop-at c).In-Some).1, c.well_formed)
 
 pub loop-at-smaller : goal.loop-at-smaller
 loop-at-smaller c =
     let a = c.args in
-    omega (arith, (part (goal.at.loop-at-smaller c).In-Data).0, (part (goal.at.loop-at-smaller c).In-Data).1, c.loop-at-test.true)
+    omega (arith, (part (goal.at.loop-at-smaller c).In-Some).0, (part (goal.at.loop-at-smaller c).In-Some).1, c.loop-at-test.true)
 
 pub loop-at-preserved : goal.loop-at-preserved
 loop-at-preserved c =
     let a = c.args in
     let o = c.loop-at in
     let i = o.invariant in
-    let f : ℕ = c.in-Data.from in
-    let n : ℕ = c.in-Data.more in
+    let f : ℕ = c.in-Some.piece.start in
+    let n : ℕ = c.in-Some.piece.len in
     let p = slice f (f + n) a.s.now in
-    let e = c.take_piece-sum-in-Data.ensures.0 ∙ ap (λ g. added a.k g p) i.2 ∙ sym (summary_append a.k i.1 p) in
+    let e = c.take_piece-sum-in-loop-at.ensures.0 ∙ ap (λ g. added a.k g p) i.2 ∙ sym (summary_append a.k i.1 p) in
     let m = ap (λ g. g.len) e ∙ summary_length a.k (i.1 ++ p) in
     let q = ap (λ g. g.len) i.2 ∙ summary_length a.k i.1 in
-    let l = part_length a.s.now f n (part (goal.at.loop-at-preserved c).In-Data).1 in
+    let l = part_length a.s.now f n (part (goal.at.loop-at-preserved c).In-Some).1 in
     let u = length-append i.1 p in (
       i.0 - 1,
       i.1 ++ p,
       e,
-      c.take_piece-sum-in-Data.ensures.1,
-      omega (arith, m, q, u, l, (part (goal.at.loop-at-preserved c).In-Data).0, i.4),
-      (part (goal.at.loop-at-preserved c).In-Data).1,
-      omega (arith, (part (goal.at.loop-at-preserved c).In-Data).0, (part (goal.at.loop-at-preserved c).In-Data).1, i.6, c.loop-at-test.true),
-      went a.k _ i.0 a.s.now o.at i.1 i.6 i.7 f n (sym c.is_continued.ensures ∙ c.if-not-is_continued.false) (sym c.piece_at.ensures ∙ c.in-Data.is),
+      c.take_piece-sum-in-loop-at.ensures.1,
+      omega (arith, m, q, u, l, (part (goal.at.loop-at-preserved c).In-Some).0, i.4),
+      (part (goal.at.loop-at-preserved c).In-Some).1,
+      omega (arith, (part (goal.at.loop-at-preserved c).In-Some).0, (part (goal.at.loop-at-preserved c).In-Some).1, i.6, c.loop-at-test.true),
+      went a.k _ i.0 a.s.now o.at i.1 i.6 i.7 f n (sym c.is_continued.ensures ∙ c.if-not-is_continued.false) (sym c.piece_at.ensures ∙ c.in-Some.is),
     )
 
 pub returns : goal.returns
