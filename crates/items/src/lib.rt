@@ -11,15 +11,14 @@ ghost use Rattle.items.specs.Tokens.{operator, writable};
 ghost use Rattle.items.specs.Listing.{writes, entry, in_table, entry_of, entry_at};
 ghost use Rattle.items.specs.Judged.{number_in, text_token, GoodText, Judged};
 
-// A token of a table, judged: one that can be written, with its words as they stand there (a numerator in two's complement) and a
-// place in the text table; or none.
+// A token of a table that can be written, with its words as they stand there (a numerator in two's complement) and a place in the
+// text table.
 #[derive(Clone, Copy)]
 pub enum Item {
     Number { num: u32, den: u32 },
     Identifier { start: usize, len: usize },
     String { start: usize, len: usize },
     Operator { number: u16 },
-    Bad,
 }
 
 // The size of a numerator, from its word.
@@ -33,16 +32,13 @@ fn size_of_word(a: u32) -> u64
     }
 }
 
-fn number_item(a: u32, b: u32, c: u32) -> Item
+fn number_item(a: u32, b: u32, c: u32) -> Option<Item>
     ensures { (x : List ℕ) → Judged x (entry (eqb c 0) (number_in a b)) result }
 {
-    if c != 0 {
-        return Item::Bad;
+    if c == 0 && numbers::lowest::is_fraction(size_of_word(a), b as u64) {
+        return Some(Item::Number { num: a, den: b });
     }
-    if numbers::lowest::is_fraction(size_of_word(a), b as u64) {
-        return Item::Number { num: a, den: b };
-    }
-    Item::Bad
+    None
 }
 
 // 1 to 100 bytes, the first a letter, no upper case.
@@ -50,13 +46,7 @@ fn is_name(x: &[u8], start: usize, len: usize) -> bool
     requires { start + len ≤ length x.now }
     ensures { result ≡ is_name Lowered (slice start (start + len) x.now) }
 {
-    if len < 1 {
-        return false;
-    }
-    if 100 < len {
-        return false;
-    }
-    if !pieces::text::is_letter(x[start]) {
+    if len < 1 || 100 < len || !pieces::text::is_letter(x[start]) {
         return false;
     }
     pieces::text::all_obey(tokens::Rule::Lowered, x, start, len)
@@ -68,13 +58,14 @@ fn is_text(named: bool, x: &[u8], start: usize, len: usize) -> bool
     ensures { result ≡ writable (text_token named (slice start (start + len) x.now)) }
 {
     if named {
-        return is_name(x, start, len);
+        is_name(x, start, len)
+    } else {
+        pieces::text::all_obey(tokens::Rule::Plain, x, start, len)
     }
-    pieces::text::all_obey(tokens::Rule::Plain, x, start, len)
 }
 
 fn text_at(named: bool, start: usize, len: usize) -> Item
-    ensures { (x : List ℕ) → GoodText x start len → Judged x (writes (text_token named (slice start (start + len) x))) result }
+    ensures { (x : List ℕ) → GoodText x start len → Judged x (writes (text_token named (slice start (start + len) x))) (Some result) }
 {
     if named {
         Item::Identifier { start, len }
@@ -83,69 +74,48 @@ fn text_at(named: bool, start: usize, len: usize) -> Item
     }
 }
 
-fn text_item(named: bool, x: &[u8], a: u32, b: u32, c: u32) -> Item
+fn text_item(named: bool, x: &[u8], a: u32, b: u32, c: u32) -> Option<Item>
     ensures { Judged x.now (entry (eqb c 0 && in_table x.now a b) (text_token named (slice a (a + b) x.now))) result }
 {
-    if c != 0 {
-        return Item::Bad;
-    }
-    if 2147483647 < a {
-        return Item::Bad;
-    }
-    if 2147483647 < b {
-        return Item::Bad;
+    if c != 0 || 2147483647 < a || 2147483647 < b {
+        return None;
     }
     let start = a as usize;
     let len = b as usize;
-    if x.len() < start + len {
-        return Item::Bad;
+    if start + len <= x.len() && is_text(named, x, start, len) {
+        return Some(text_at(named, start, len));
     }
-    if is_text(named, x, start, len) {
-        return text_at(named, start, len);
-    }
-    Item::Bad
+    None
 }
 
-fn operator_item(a: u32, b: u32, c: u32) -> Item
+fn operator_item(a: u32, b: u32, c: u32) -> Option<Item>
     ensures { (x : List ℕ) → Judged x (entry (eqb b 0 && eqb c 0) (operator a)) result }
 {
-    if b != 0 {
-        return Item::Bad;
+    if b != 0 || c != 0 || 8191 < a {
+        return None;
     }
-    if c != 0 {
-        return Item::Bad;
-    }
-    if 8191 < a {
-        return Item::Bad;
-    }
-    Item::Operator { number: a as u16 }
+    Some(Item::Operator { number: a as u16 })
 }
 
-fn item_of(x: &[u8], k: u32, a: u32, b: u32, c: u32) -> Item
+fn item_of(x: &[u8], k: u32, a: u32, b: u32, c: u32) -> Option<Item>
     ensures { Judged x.now (entry_of x.now k a b c) result }
 {
-    if k == 1 {
-        return number_item(a, b, c);
+    match k {
+        1 => number_item(a, b, c),
+        2 => text_item(true, x, a, b, c),
+        3 => text_item(false, x, a, b, c),
+        4 => operator_item(a, b, c),
+        _ => None,
     }
-    if k == 2 {
-        return text_item(true, x, a, b, c);
-    }
-    if k == 3 {
-        return text_item(false, x, a, b, c);
-    }
-    if k == 4 {
-        return operator_item(a, b, c);
-    }
-    Item::Bad
 }
 
-// The token at byte `at` of the list.
-pub fn item_at(list: &[u8], text: &[u8], at: usize) -> Item
+// The token at byte `at` of the list, if one stands there that can be written.
+pub fn item_at(list: &[u8], text: &[u8], at: usize) -> Option<Item>
     requires { at ≤ length list.now }
     ensures { Judged text.now (entry_at list.now text.now at) result }
 {
     if list.len() - at < 16 {
-        return Item::Bad;
+        return None;
     }
     item_of(
         text,

@@ -7,6 +7,6 @@ pub returns-then-named : goal.returns-then-named
 unfolding writable
 returns-then-named c = rw (text_named c.args.named _ c.if-named.true) c.is_name.ensures
 
-pub returns : goal.returns
+pub returns-else-named : goal.returns-else-named
 unfolding writable
-returns c = rw (text_unnamed c.args.named _ c.if-named.false) c.all_obey.ensures
+returns-else-named c = rw (text_unnamed c.args.named _ c.if-named.false) c.all_obey.ensures
