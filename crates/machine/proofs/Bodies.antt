@@ -13,7 +13,6 @@ use borrow.Author.Tests.{eqb-true, eq-eqb}
 use Rattle.numbers.specs.declared.Number as num
 use Rattle.tokens.specs.declared.Read.{Read}
 use Rattle.tokens.specs.declared.Read.TheVariants.{Number, Identifier, String, Operator, Comment}
-use Rattle.tokens.specs.declared.Refusal.{Refusal}
 use Rattle.tokens.specs.declared.Refusal.TheVariants.{TooDeep}
 use Rattle.tokens.specs.Token.{token_at}
 use Rattle.numbers.proofs.Cond.{either}
@@ -49,25 +48,25 @@ pub record Parts (s : List ℕ) (k at next : ℕ) : Type 0 where
   pub literals : Passes s k (begins + 2) ends
   pub closes : token_at s ends ≡ Ok (Operator closing next)
 
-same_on : {x y : ℕ} → Ok (On x) ≡ Ok (On y) → x ≡ y
+same_on : {x y : ℕ} → ◌≡◌ {A = Result Passed Refused} (Ok (On x)) (Ok (On y)) → x ≡ y
 same_on e = cc
 
-same_closed : {x y : ℕ} → Ok (Closed x) ≡ Ok (Closed y) → x ≡ y
+same_closed : {x y : ℕ} → ◌≡◌ {A = Result Passed Refused} (Ok (Closed x)) (Ok (Closed y)) → x ≡ y
 same_closed e = cc
 
-closed_on : {x y : ℕ} → Ok (Closed x) ≡ Ok (On y) → ◌≡◌ {A = ℕ} 0 1
+closed_on : {x y : ℕ} → ◌≡◌ {A = Result Passed Refused} (Ok (Closed x)) (Ok (On y)) → ◌≡◌ {A = ℕ} 0 1
 closed_on e = cc
 
-bad_on : {w : Refusal} {x y : ℕ} → Err (refusal_at w x) ≡ Ok (On y) → ◌≡◌ {A = ℕ} 0 1
+bad_on : {w : Refused} {y : ℕ} → Err w ≡ Ok (On y) → ◌≡◌ {A = ℕ} 0 1
 bad_on e = cc
 
-bad_closed : {w : Refusal} {x y : ℕ} → Err (refusal_at w x) ≡ Ok (Closed y) → ◌≡◌ {A = ℕ} 0 1
+bad_closed : {w : Refused} {y : ℕ} → Err w ≡ Ok (Closed y) → ◌≡◌ {A = ℕ} 0 1
 bad_closed e = cc
 
-same_past : {x y : ℕ} → Ok x ≡ Ok y → x ≡ y
+same_past : {x y : ℕ} → ◌≡◌ {A = Result ℕ Refused} (Ok x) (Ok y) → x ≡ y
 same_past e = cc
 
-stop_past : {w : Refusal} {x y : ℕ} → Err (refusal_at w x) ≡ Ok y → ◌≡◌ {A = ℕ} 0 1
+stop_past : {w : Refused} {y : ℕ} → Err w ≡ Ok y → ◌≡◌ {A = ℕ} 0 1
 stop_past e = cc
 
 closes_is : (n : ℕ) → role_of n ≡ Closes → n ≡ closing
@@ -89,17 +88,17 @@ module _ (s : List ℕ) (k : ℕ) where
       by_went n x e r (Err w) q h = never (bad_on h)
 
       by_role : (n x : ℕ) → token_at s at ≡ Ok (Operator n x) → (r : Role) → role_of n ≡ r → passing r at (body_at k s) x ≡ Ok (On next) → Passing s k at next
-      by_role n x e Plain r h = plain n (e ∙ ap (Operator n) (same_on h)) r
+      by_role n x e Plain r h = plain n (e ∙ ap (λ x. Ok (Operator n x)) (same_on h)) r
       by_role n x e Holds r h = by_went n x e r (body_at k s x) refl h
       by_role n x e Closes r h = never (closed_on h)
       by_role n x e Barred r h = never (bad_on h)
 
       by_token : (t : Result Read Refused) → token_at s at ≡ t → literal_by at (body_at k s) t ≡ Ok (On next) → Passing s k at next
-      by_token (Ok (Number value x)) e h = figure value (e ∙ ap (Number value) (same_on h))
-      by_token (Ok (Identifier len x)) e h = name len (e ∙ ap (Identifier len) (same_on h))
-      by_token (Ok (String count x)) e h = text count (e ∙ ap (String count) (same_on h))
+      by_token (Ok (Number value x)) e h = figure value (e ∙ ap (λ x. Ok (Number value x)) (same_on h))
+      by_token (Ok (Identifier len x)) e h = name len (e ∙ ap (λ x. Ok (Identifier len x)) (same_on h))
+      by_token (Ok (String count x)) e h = text count (e ∙ ap (λ x. Ok (String count x)) (same_on h))
       by_token (Ok (Operator n x)) e h = by_role n x e (role_of n) refl h
-      by_token (Ok (Comment x)) e h = comment (e ∙ ap Ok (Comment (same_on h)))
+      by_token (Ok (Comment x)) e h = comment (e ∙ ap (λ x. Ok (Comment x)) (same_on h))
       by_token (Err w) e h = never (bad_on h)
 
   closed_of : (at next : ℕ) → literal_at k s at ≡ Ok (Closed next) → token_at s at ≡ Ok (Operator closing next)
@@ -113,7 +112,7 @@ module _ (s : List ℕ) (k : ℕ) where
       by_role : (n x : ℕ) → token_at s at ≡ Ok (Operator n x) → (r : Role) → role_of n ≡ r → passing r at (body_at k s) x ≡ Ok (Closed next) → token_at s at ≡ Ok (Operator closing next)
       by_role n x e Plain r h = never (closed_on (sym h))
       by_role n x e Holds r h = by_went (body_at k s x) h
-      by_role n x e Closes r h = rw (closes_is n r) at (e ∙ ap (Operator n) (same_closed h))
+      by_role n x e Closes r h = rw (closes_is n r) at (e ∙ ap (λ x. Ok (Operator n x)) (same_closed h))
       by_role n x e Barred r h = never (bad_closed h)
 
       by_token : (t : Result Read Refused) → token_at s at ≡ t → literal_by at (body_at k s) t ≡ Ok (Closed next) → token_at s at ≡ Ok (Operator closing next)
@@ -146,7 +145,7 @@ module _ (s : List ℕ) (k : ℕ) where
       by_passed : ((x : ℕ) → literals_from j (literal_at k s) x ≡ Ok next → (end : ℕ) × Passes s k x end × (token_at s end ≡ Ok (Operator closing next)))
           → (p : Result Passed Refused) → literal_at k s at ≡ p → and_then p (literals_from j (literal_at k s)) ≡ Ok next → (end : ℕ) × Passes s k at end × (token_at s end ≡ Ok (Operator closing next))
       by_passed ih (Ok (On x)) e g = let r = ih x g in (r.0, more (passing_of at x e) r.1, r.2)
-      by_passed ih (Ok (Closed x)) e g = (at, stop, closed_of at x e ∙ ap (Operator closing) (same_past g))
+      by_passed ih (Ok (Closed x)) e g = (at, stop, closed_of at x e ∙ ap (λ y. Ok (Operator closing y)) (same_past g))
       by_passed ih (Err w) e g = never (stop_past g)
 
 -- ---- ends
@@ -194,7 +193,7 @@ due_of n s at next = by_token (token_at s (solid s at)) refl
     by_token (Ok (Identifier len x)) e h = never (stop_past h)
     by_token (Ok (String count x)) e h = never (stop_past h)
     by_token (Ok (Operator m x)) e h = either (λ w. w ≡ Ok next → token_at s (solid s at) ≡ Ok (Operator n next)) (eqb m n) (Ok x) _
-        (λ i g. rw (eqb-true m n i) at (e ∙ ap (Operator m) (same_past g))) (λ _ g. never (stop_past g)) h
+        (λ i g. rw (eqb-true m n i) at (e ∙ ap (λ y. Ok (Operator m y)) (same_past g))) (λ _ g. never (stop_past g)) h
     by_token (Ok (Comment x)) e h = never (stop_past h)
     by_token (Err w) e h = never (stop_past h)
 

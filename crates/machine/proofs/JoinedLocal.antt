@@ -1,7 +1,7 @@
 -- The data of a sequence that ends inside a slice are the same bytes when read in the slice. In order: a slice as a view; pieces; joined
 -- data. Assumes nothing.
 use Rattle.std.specs.Prelude.{Option, Some, None}
-use Rattle.tokens.specs.Joined.{piece_from}
+use Rattle.tokens.specs.Joined.{piece_from, Joined, whole, cut_at, length_bytes, within, piece_at, continued, on_piece, joined_from, joined_at}
 use Prim.Native.Nat.{ℕ, zero, suc, ◌+◌, ◌-◌, ◌<◌, ◌≤◌}
 use native.Mathlib.Omega.{arith}
 use mathlib.Core.Path.{◌≡◌, refl, sym, ap, ◌∙◌}
@@ -12,7 +12,6 @@ use lib.ListN.{length, get_or, take}
 use lib.Seq.{slice, length-slice, get_or-drop, get_or-take, take-take, drop-drop}
 use Rattle.tokens.specs.declared.Piece.{Piece}
 use Rattle.tokens.specs.Bytes.{value_of}
-use Rattle.tokens.specs.Joined.{Joined, whole, cut_at, length_bytes, within, piece_at, continued, on_piece, joined_from, joined_at}
 use Rattle.numbers.proofs.Cond.{either, by_test, split}
 use Rattle.tokens.proofs.Pieces.{length_bounds, within_data, piece_is, inside, Inside, joined_data, joined_missing}
 use Rattle.tokens.proofs.Summaries.{take_drop}
@@ -40,7 +39,8 @@ view s a e h = record {
 -- a piece that is there
 within_is : (s : List ℕ) (x v f n : ℕ) → within s x v ≡ Some (piece_from f n) → (x ≡ f) × (v ≡ n)
 unfolding within
-within_is s x v f n = either (λ w. w ≡ Some (piece_from f n) → (x ≡ f) × (v ≡ n)) (leb (x + v) (length s)) (Some (piece_from x v)) None (λ _ e. (cc, cc)) (λ _ e. (cc, cc))
+within_is s x v f n = either (λ w. w ≡ Some (piece_from f n) → (x ≡ f) × (v ≡ n)) (leb (x + v) (length s)) (Some (piece_from x v)) None
+    (λ _ e. let p : piece_from x v ≡ piece_from f n = cc in (ap (λ (y : Piece). y.start) p, ap (λ (y : Piece). y.len) p)) (λ _ e. (cc, cc))
 
 -- joined data end where they begin or later
 abbrev Later : ℕ → Joined → Type 0
@@ -112,7 +112,7 @@ module _ (s : List ℕ) (a e : ℕ) (b : List ℕ) (v : View s a e b) where
       goes ih t (Some got) w =
           let r : joined_from k s (got.start + got.len) (d ++ slice got.start (got.start + got.len) s) ≡ whole j next = rw (t, w) at q in
           let y : got.start + got.len ≤ next = rw r at (later k s (got.start + got.len) (d ++ slice got.start (got.start + got.len) s)) in
-          let o : Moved s a b x at got.start n = moved x at got.start got.len p w (omega arith) in
+          let o : Moved s a b x at got.start got.len = moved x at got.start got.len p w (omega arith) in
           let c : continued (get_or b at 0) ≡ true = ap continued (v.byte at x p (omega arith)) ∙ t in
           turn m b at d g ∙ rw (c, o.piece, o.bytes) (ih (got.start + got.len) (got.start - a + got.len) (d ++ slice got.start (got.start + got.len) s) o.place (omega arith) (omega arith) r l)
       goes ih t None w = let r : cut_at x ≡ whole j next = rw (t, w) at q in let z : ◌≡◌ {A = ℕ} 0 1 = cc in absurd (omega arith)
@@ -124,7 +124,7 @@ module _ (s : List ℕ) (a e : ℕ) (b : List ℕ) (v : View s a e b) where
       by_piece (Some got) w =
           let r : joined_from (length s) s (got.start + got.len) (slice got.start (got.start + got.len) s) ≡ whole d next = sym (joined_data s x got.start got.len w) ∙ q in
           let y : got.start + got.len ≤ next = rw r at (later (length s) s (got.start + got.len) (slice got.start (got.start + got.len) s)) in
-          let o : Moved s a b x at got.start n = moved x at got.start got.len p w (omega arith) in
+          let o : Moved s a b x at got.start got.len = moved x at got.start got.len p w (omega arith) in
           joined_data b at (got.start - a) got.len o.piece ∙ rw o.bytes (from_local (length s) (length b) (got.start + got.len) (got.start - a + got.len) (slice got.start (got.start + got.len) s) d next o.place (omega arith) (omega arith) r l)
       by_piece None w = let z : ◌≡◌ {A = ℕ} 0 1 = cc (joined_missing s x w) in absurd (omega arith)
 

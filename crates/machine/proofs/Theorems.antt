@@ -2,7 +2,7 @@
 -- leaves; the same page; a page reprinted; the rest of rows; load, then run; moments; cases. `bodies_in s` are the bytes of the master's
 -- bodies, the preamble's first. Work: Verdicts, RowsKept, SamePage; Guarded, WithinLimits, Kept, Moments; AllCases. Assumes nothing.
 use Rattle.std.specs.Prelude.{Ok, Err}
-use Rattle.tokens.specs.Refusal.{refusal_at}
+use Rattle.tokens.specs.Refusal.{refusal_at, Outcome}
 use Prim.Native.Nat.{ℕ, ◌+◌, ◌*◌, ◌≤◌, ◌<◌, zero, suc}
 use mathlib.Core.Path.{◌≡◌, sym, ◌∙◌, refl}
 use mathlib.Core.Logic.{◌≢◌, ◌⊎◌}
@@ -13,7 +13,6 @@ use lib.ListN.{length, get_or, take}
 use lib.Seq.{slice}
 use Rattle.tokens.specs.declared.Refusal.{Refusal}
 use Rattle.tokens.specs.declared.Refusal.TheVariants.{PreambleUnfinished}
-use Rattle.tokens.specs.Refusal.{Outcome}
 use Rattle.machine.specs.Limits.{most_steps, scratch_size, rows_size, sections_size}
 use Rattle.machine.specs.Promise.{cleared, load_answer, Loads, run_verdict, run_answer, Runs, Reprints}
 use Rattle.machine.proofs.Verdicts.{bodies_in, ran, run_refused, reprinted, reprint_refused, run_loaded}

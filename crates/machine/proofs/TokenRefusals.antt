@@ -1,6 +1,6 @@
 -- A token that is not read is refused by one of the refusals 2 to 5, so by an early one. Assumes nothing.
 use Rattle.std.specs.Prelude.{Result, Ok, Err}
-use Rattle.tokens.specs.Refusal.{refusal_at}
+use Rattle.tokens.specs.Refusal.{refusal_at, number_of}
 use Rattle.tokens.specs.declared.Refused.{Refused}
 use Prim.Native.Nat.{ℕ, ◌<◌}
 use native.Mathlib.Omega.{arith}
@@ -9,7 +9,6 @@ use Rattle.numbers.specs.declared.Number as N
 use Rattle.tokens.specs.declared.Read.{Read}
 use Rattle.tokens.specs.declared.Read.TheVariants.{Number, Identifier, String, Operator, Comment}
 use Rattle.tokens.specs.declared.Refusal.{Refusal}
-use Rattle.tokens.specs.Refusal.{number_of}
 use Rattle.tokens.specs.Token.{token_at}
 use Rattle.tokens.proofs.Told.{Tells}
 use Rattle.tokens.proofs.Theorems.{token_tells_all}

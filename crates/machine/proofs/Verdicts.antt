@@ -1,6 +1,5 @@
 -- The verdicts there are on a master, and what each answer of `load`, `run` and `reprint` says of bodies and tables. Assumes nothing.
 use Rattle.std.specs.Prelude.{Ok, Err}
-use Rattle.tokens.specs.Refusal.{refusal_at}
 use Prim.Native.Nat.{ℕ, suc, ◌+◌, ◌-◌, ◌*◌, ◌≤◌, ◌<◌}
 use native.Mathlib.Omega.{arith}
 use mathlib.Core.Path.{◌≡◌, refl, sym, ap, ◌∙◌}
@@ -14,7 +13,8 @@ use lib.ListN.{length, length-map}
 use borrow.Author.Tests.{leb-true, ltb-true, le-leb}
 use Rattle.tokens.specs.declared.Refusal.{Refusal}
 use Rattle.tokens.specs.declared.Refusal.TheVariants.{TooLong, TableTooShort, PreambleUnfinished, NoSuchPage, BadAllowance}
-use Rattle.tokens.specs.Refusal.{number_of}
+use Rattle.tokens.specs.declared.Refused.{Refused}
+use Rattle.tokens.specs.Refusal.{Outcome, number_of, refusal_at}
 use Rattle.tokens.specs.Format.{longest}
 use Rattle.numbers.proofs.Cond.{either, both, by_test}
 use Rattle.machine.specs.Limits.{most_pages, most_steps, scratch_size, rows_size, sections_size}
@@ -111,6 +111,10 @@ pub record Ran (s : List ℕ) (a : ℤ) (scratch scratch' rows rows' : List ℕ)
   pub scratch_is : scratch' ≡ cleared scratch
   pub rows_are : rows' ≡ over (rows_of (nat_abs a) (bodies_in s)) rows
 
+-- one answer has one refusal
+same_why : {w u : Refusal} {p q : ℕ} → ◌≡◌ {A = Outcome} (Err (refusal_at w p)) (Err (refusal_at u q)) → w ≡ u
+same_why {w} {u} {p} {q} e = let f : refusal_at w p ≡ refusal_at u q = cc in ap (λ (x : Refused). x.refusal) f
+
 -- what a refusal says of the scratch
 abbrev pub Left : Refusal → List ℕ → List ℕ → Type 0
 Left w scratch scratch' = (w ≢ PreambleUnfinished → scratch' ≡ scratch) × (w ≡ PreambleUnfinished → scratch' ≡ cleared scratch)
@@ -130,8 +134,8 @@ module _ (s : List ℕ) (a : ℤ) (scratch scratch' rows rows' : List ℕ) where
       → Err (refusal_at w p) ≡ run_answer v → scratch' ≡ scratch_leaves v scratch → rows' ≡ rows_leaves a v rows → (rows' ≡ rows) × Left w scratch scratch'
   unfolding run_answer scratch_leaves rows_leaves
   kept_by w p _ (runs e h) q x y = absurd (let z : ◌≡◌ {A = ℕ} 0 1 = cc in omega arith)
-  kept_by w p _ waits q x y = let z : w ≡ PreambleUnfinished = cc in (y, ((λ h. absurd (h z)), λ _. x))
-  kept_by w p _ (stops {w = u} h) q x y = let z : w ≡ u = cc in (y, ((λ _. x), λ e. absurd (h (sym z ∙ e))))
+  kept_by w p _ waits q x y = let z : w ≡ PreambleUnfinished = same_why q in (y, ((λ h. absurd (h z)), λ _. x))
+  kept_by w p _ (stops {w = u} h) q x y = let z : w ≡ u = same_why q in (y, ((λ _. x), λ e. absurd (h (sym z ∙ e))))
 
 pub ran : {s : List ℕ} {a : ℤ} {scratch scratch' rows rows' : List ℕ} {c : ℕ} → Runs s a scratch scratch' rows rows' (Ok c) → Ran s a scratch scratch' rows rows' c
 ran {s} {a} {scratch} {scratch'} {rows} {rows'} {c} r =
@@ -172,8 +176,8 @@ module _ (s : List ℕ) (a page : ℤ) (scratch scratch' rows rows' sections sec
       → (rows' ≡ rows) × (sections' ≡ sections) × Left w scratch scratch'
   unfolding reprint_answer scratch_leaves row_leaves sections_leaves
   left_by w p _ (runs e h) q x y z = absurd (let o : ◌≡◌ {A = ℕ} 0 1 = cc in omega arith)
-  left_by w p _ waits q x y z = let o : w ≡ PreambleUnfinished = cc in (y, z, ((λ h. absurd (h o)), λ _. x))
-  left_by w p _ (stops {w = u} h) q x y z = let o : w ≡ u = cc in (y, z, ((λ _. x), λ e. absurd (h (sym o ∙ e))))
+  left_by w p _ waits q x y z = let o : w ≡ PreambleUnfinished = same_why q in (y, z, ((λ h. absurd (h o)), λ _. x))
+  left_by w p _ (stops {w = u} h) q x y z = let o : w ≡ u = same_why q in (y, z, ((λ _. x), λ e. absurd (h (sym o ∙ e))))
 
 pub reprinted : {s : List ℕ} {a page : ℤ} {n : ℕ} {scratch scratch' rows rows' sections sections' : List ℕ}
     → Reprints s a page scratch scratch' rows rows' sections sections' (Ok n) → Reprinted s a (nat_abs page) scratch scratch' rows rows' sections sections'

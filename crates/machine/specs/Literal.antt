@@ -1,9 +1,8 @@
 -- The literal at a place of a body's bytes, and the bytes that values point to (01, Outcomes and numbers: "a start counts from just after
 -- that body's `{`"; R27). Of a body that the skeleton accepts every place where the machine reads holds a literal; where there is none,
 -- the operator 0, which no master has, ends the body. Assumes nothing.
-use Rattle.std.specs.Prelude.{Result, Ok, Err}
+use Rattle.std.specs.Prelude.{Result, Ok, Err, ℕ, ◌+◌, ◌-◌, Bool, true, false, ◌&&◌, List, [], ◌∷◌, eqb, pos, length, get_or}
 use Rattle.tokens.specs.declared.Refused.{Refused}
-use Rattle.std.specs.Prelude.{ℕ, ◌+◌, ◌-◌, Bool, true, false, ◌&&◌, List, [], ◌∷◌, eqb, pos, length, get_or}
 use Rattle.tokens.specs.declared.Read.{Read}
 use Rattle.tokens.specs.declared.Read.TheVariants as read
 use Rattle.tokens.specs.Text.{lowered}

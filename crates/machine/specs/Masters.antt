@@ -1,9 +1,7 @@
 -- Whole masters that are proved to load and to run as 01 says, as one table: the bytes after the header, the answer of `load` and of `run`,
 -- and the rows, the preamble's first, under 100000 steps. proofs/AllCases.antt proves each. Assumes nothing.
-use Rattle.std.specs.Prelude.{Ok, Err}
-use Rattle.tokens.specs.Refusal.{refusal_at}
-use Rattle.std.specs.Prelude.{ℕ, ◌≡◌, List, [], ◌∷◌, ◌++◌, pos}
-use Rattle.tokens.specs.Refusal.{Outcome}
+use Rattle.std.specs.Prelude.{Ok, Err, ℕ, ◌≡◌, List, [], ◌∷◌, ◌++◌, pos}
+use Rattle.tokens.specs.Refusal.{refusal_at, Outcome}
 use Rattle.tokens.specs.declared.Refusal.TheVariants.{CutOff, AfterEnd}
 use Rattle.tokens.specs.Format.{header}
 use Rattle.machine.specs.Skeleton.{skeleton_of}

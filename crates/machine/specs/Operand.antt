@@ -1,7 +1,6 @@
 -- How an operator reads the values that it pops, and what it gives: one line for each type that 2.4 asks of an operand. Anything else is
 -- a master error (`Fail`). Assumes nothing.
-use Rattle.std.specs.Prelude.{Ok, Err}
-use Rattle.std.specs.Prelude.{ℕ, Bool, cond, ◌&&◌, leb, eqb, ℤ, pos, negsuc}
+use Rattle.std.specs.Prelude.{Ok, Err, ℕ, Bool, cond, ◌&&◌, leb, eqb, ℤ, pos, negsuc}
 use Rattle.std.proofs.Math.Option.{Option, none, some}
 use Rattle.numbers.specs.declared.Number as num
 use Rattle.numbers.specs.Fraction.{Answer}

@@ -3,13 +3,11 @@
 -- zero. An accepted run leaves scratch zero, row 0 and the rows of existing pages written, later rows untouched. Reprint leaves scratch
 -- zero and writes one row and its sections, with zero after the last value"; "Of a longer table only these first words are used").
 -- In order: what is judged before anything runs; tables; load; run; reprint. Assumes nothing.
-use Rattle.std.specs.Prelude.{Ok, Err}
-use Rattle.tokens.specs.Refusal.{refusal_at}
-use Rattle.std.specs.Prelude.{ℕ, ◌+◌, ◌-◌, ◌*◌, ◌≡◌, Bool, cond, ◌&&◌, List, ◌++◌, eqb, leb, ℤ, pos, nat_abs, length, take, drop, replicate}
+use Rattle.std.specs.Prelude.{Ok, Err, ℕ, ◌+◌, ◌-◌, ◌*◌, ◌≡◌, Bool, cond, ◌&&◌, List, ◌++◌, eqb, leb, ℤ, pos, nat_abs, length, take, drop, replicate}
+use Rattle.tokens.specs.Refusal.{refusal_at, Outcome}
 use Rattle.std.specs.Int.Signed.{le_z, lt_z}
 use Rattle.tokens.specs.declared.Refusal.{Refusal}
 use Rattle.tokens.specs.declared.Refusal.TheVariants.{TooLong, TableTooShort, PreambleUnfinished, NoSuchPage, BadAllowance}
-use Rattle.tokens.specs.Refusal.{Outcome}
 use Rattle.tokens.specs.Format.{longest}
 use Rattle.machine.specs.Limits.{most_steps, scratch_size, sections_size, rows_size}
 use Rattle.machine.specs.Skeleton.{Skeleton, sound, refused, skeleton_of}

@@ -1,8 +1,7 @@
 -- Bodies that run to their end: literals from the first place on, each found as one, and so each body that a literal holds. The functions of
 -- the engine may take it for granted of bytes that the check has taken (docs/DECISIONS.md, D77); no public call does. Assumes nothing.
-use Rattle.std.specs.Prelude.{Result, Ok, Err}
+use Rattle.std.specs.Prelude.{Result, Ok, Err, ℕ, ◌+◌, ◌-◌, ◌<◌, ◌≡◌, List, length}
 use Rattle.tokens.specs.declared.Refused.{Refused}
-use Rattle.std.specs.Prelude.{ℕ, ◌+◌, ◌-◌, ◌<◌, ◌≡◌, List, length}
 use Rattle.numbers.specs.declared.Number as num
 use Rattle.tokens.specs.declared.Read.{Read}
 use Rattle.tokens.specs.declared.Read.TheVariants as read

@@ -2,10 +2,9 @@
 -- `}`; a literal of a body operator holds a body directly after it, comments aside. Every refusal with its place, in 01's order of
 -- judging: the token itself (2, 3, 5, 4), then 6, 8, 9. In order: operators to the skeleton; comments; bodies and literals, each by
 -- the other; the master. Assumes nothing.
-use Rattle.std.specs.Prelude.{Result, Ok, Err}
+use Rattle.std.specs.Prelude.{Result, Ok, Err, ℕ, zero, suc, ◌+◌, ◌-◌, Bool, false, cond, ◌||◌, List, [], ◌∷◌, ◌++◌, eqb, leb, length}
 use Rattle.tokens.specs.Refusal.{refusal_at}
 use Rattle.tokens.specs.declared.Refused.{Refused}
-use Rattle.std.specs.Prelude.{ℕ, zero, suc, ◌+◌, ◌-◌, Bool, false, cond, ◌||◌, List, [], ◌∷◌, ◌++◌, eqb, leb, length}
 use Rattle.tokens.specs.declared.Read.{Read}
 use Rattle.tokens.specs.declared.Read.TheVariants.{Number, Identifier, String, Operator, Comment}
 use Rattle.tokens.specs.declared.Refusal.{Refusal}

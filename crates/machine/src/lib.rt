@@ -11,31 +11,11 @@ pub enum Role {
     Barred,
 }
 
-// How reading a body ended: past it, or at a refusal.
-#[derive(Clone, Copy)]
-pub enum Went {
-    Past {
-        next: usize,
-    },
-    Stop {
-        refusal: tokens::Refusal,
-        place: usize,
-    },
-}
-
-// How reading a literal ended: past it, past the `}` that stood in its place, or at a refusal.
+// How reading a literal ended, where it was not refused: past it, or past the `}` that stood in its place.
 #[derive(Clone, Copy)]
 pub enum Passed {
-    On {
-        next: usize,
-    },
-    Closed {
-        next: usize,
-    },
-    Bad {
-        refusal: tokens::Refusal,
-        place: usize,
-    },
+    On { next: usize },
+    Closed { next: usize },
 }
 
 // A value on the stack, in a frame or in a cell.
