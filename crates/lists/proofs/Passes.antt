@@ -1,6 +1,6 @@
 -- The two passes over a list, a token at a turn. In order: one more token; counting up to a limit; a turn of
 -- either pass; the first pass; the written form only grows; the second pass. Assumes nothing.
-use Rattle.std.specs.Prelude.{Ok, Err, Option}
+use Rattle.std.specs.Prelude.{Ok, Err, Option, Some, None, IsSome}
 use Rattle.tokens.specs.Refusal.{refusal_at}
 use Rattle.tokens.specs.declared.Refusal.TheVariants.{NotWritable}
 use Rattle.std.proofs.Common.{◌≡◌, ℕ, zero, suc, ◌+◌, ◌-◌, ◌/◌, ◌<◌, ◌≤◌, cond, ltb, leb, List, [], ◌∷◌, ◌++◌, length, sym, refl, ap, ◌∙◌, subst, append_assoc, append-nil, le_refl, arith, length-append, le-ltb, lt-ltb, le-leb}
@@ -9,6 +9,7 @@ use borrow.Author.Tests.{lt-leb}
 use Rattle.tokens.specs.Format.{header}
 use Rattle.numbers.proofs.Cond.{either, split}
 use Rattle.items.specs.declared.Item.{Item}
+use Rattle.items.specs.declared.Item.TheVariants.{Number, Identifier, String, Operator}
 use Rattle.items.specs.Tokens.{Token}
 use Rattle.lists.specs.Written.{token_bytes, tokens_bytes, written_of}
 use Rattle.items.specs.Listing.{Entry, writes, bad, entry_at, Listed, all, wrong, on_entry, listed_from, listed}
@@ -16,21 +17,16 @@ use Rattle.items.specs.Judged.{entry_is, GoodItem, Judged}
 use Rattle.lists.specs.Inner.{Room, Put, entry_tokens, entry_bytes, capped, measured_of, Fits, tokens_in}
 use Rattle.lists.proofs.Storing.{put_then}
 use Rattle.lists.proofs.SameTables.{list_turn}
-use Rattle.lists.proofs.TokenBack.{some_byte}
 use Rattle.lists.proofs.ReadWrite.{written_length}
 
 -- ---- one more token
 
-module _ (at : ℕ) (ts : List Token) (more : List Token → Listed) where
-  on_none : (e : Entry) → length (entry_bytes e) ≡ 0 → on_entry at ts e more ≡ wrong (at / 16)
-  unfolding entry_bytes on_entry
-  on_none (writes t) h = absurd (omega (arith, some_byte t))
-  on_none bad h = refl
-
-  on_some : (e : Entry) → (length (entry_bytes e) ≡ 0 → ⊥) → on_entry at ts e more ≡ more (ts ++ entry_tokens e)
-  unfolding entry_bytes entry_tokens on_entry
-  on_some (writes t) h = refl
-  on_some bad h = absurd (h refl)
+on_item : (at : ℕ) (ts : List Token) (more : List Token → Listed) (x : List ℕ) (i : Item) → on_entry at ts (entry_is x (Some i)) more ≡ more (ts ++ entry_tokens (entry_is x (Some i)))
+unfolding entry_is entry_tokens on_entry
+on_item at ts more x (Number a b) = refl
+on_item at ts more x (Identifier s n) = refl
+on_item at ts more x (String s n) = refl
+on_item at ts more x (Operator n) = refl
 
 tokens_more : (ts : List Token) (e : Entry) → tokens_bytes (ts ++ entry_tokens e) ≡ tokens_bytes ts ++ entry_bytes e
 unfolding tokens_bytes entry_tokens entry_bytes
@@ -77,13 +73,14 @@ module _ (l x : List ℕ) (J : Listed) (at k : ℕ) (ts : List Token) (b : Befor
   ended h = sym b.rest ∙ list_turn k l x at ts b.room ∙ rw (le-ltb at (length l) h)
 
   module _ (h : at < length l) where
-    stopped : length (entry_bytes (entry_at l x at)) ≡ 0 → J ≡ wrong (at / 16)
-    stopped z = sym b.rest ∙ list_turn k l x at ts b.room ∙ rw (lt-ltb at (length l) h) (on_none at ts (listed_from (k - 1) l x (at + 16)) (entry_at l x at) z)
+    stopped : Judged x (entry_at l x at) None → J ≡ wrong (at / 16)
+    unfolding entry_is on_entry
+    stopped j = sym b.rest ∙ list_turn k l x at ts b.room ∙ rw (lt-ltb at (length l) h, ← j.is)
 
-    went : (length (entry_bytes (entry_at l x at)) ≡ 0 → ⊥) → Before l x J (at + 16) (k - 1) (ts ++ entry_tokens (entry_at l x at))
-    went z = record {
+    went : (i : Item) → Judged x (entry_at l x at) (Some i) → Before l x J (at + 16) (k - 1) (ts ++ entry_tokens (entry_at l x at))
+    went i j = record {
       room = omega (arith, b.room);
-      rest = sym (list_turn k l x at ts b.room ∙ rw (lt-ltb at (length l) h) (on_some at ts (listed_from (k - 1) l x (at + 16)) (entry_at l x at) z)) ∙ b.rest;
+      rest = sym (list_turn k l x at ts b.room ∙ rw (lt-ltb at (length l) h, ← j.is) (on_item at ts (listed_from (k - 1) l x (at + 16)) x i)) ∙ b.rest;
     }
 
 -- ---- the first pass: the list before byte `at` is judged and measured
@@ -104,21 +101,19 @@ module _ (l x : List ℕ) (at total : ℕ) (m : Measuring l x at total) where
   unfolding measured_of
   measuring_end h = rw (ended l x (listed l x) at m.k m.ts m.before h, m.sum)
 
-  -- the item i is judged there, and n is its size
-  module _ (h : at < length l) (i : Option Item) (j : Judged x (entry_at l x at) i) (n : ℕ) (f : (y : List ℕ) → GoodItem y i → n ≡ length (entry_bytes (entry_is y i))) where
-    size_there : n ≡ length (entry_bytes (entry_at l x at))
-    size_there = f x j.good ∙ ap (λ (d : Entry). length (entry_bytes d)) j.is
-
-    pub measuring_wrong : n ≡ 0 → Err (refusal_at NotWritable (at / 16)) ≡ measured_of (listed l x)
+  module _ (h : at < length l) where
+    pub measuring_wrong : Judged x (entry_at l x at) None → Err (refusal_at NotWritable (at / 16)) ≡ measured_of (listed l x)
     unfolding measured_of
-    measuring_wrong z = rw (stopped l x (listed l x) at m.k m.ts m.before h (sym size_there ∙ z))
+    measuring_wrong j = rw (stopped l x (listed l x) at m.k m.ts m.before h j)
 
-    pub measuring_on : (n ≡ 0 → ⊥) → (t : ℕ) → (t ≡ capped (total + n)) × (t ≤ 16777216) → Measuring l x (at + 16) t
-    measuring_on z t c = record {
+    -- the item i is judged there, and n is its size
+    pub measuring_on : (i : Item) → Judged x (entry_at l x at) (Some i) → (n : ℕ) → ((y : List ℕ) → GoodItem y (Some i) → n ≡ length (entry_bytes (entry_is y (Some i))))
+        → (t : ℕ) → (t ≡ capped (total + n)) × (t ≤ 16777216) → Measuring l x (at + 16) t
+    measuring_on i j n f t c = record {
       k = m.k - 1;
       ts = m.ts ++ entry_tokens (entry_at l x at);
-      before = went l x (listed l x) at m.k m.ts m.before h (rw size_there at z);
-      sum = counted m.ts (entry_at l x at) total n t size_there m.sum c.0;
+      before = went l x (listed l x) at m.k m.ts m.before h i j;
+      sum = counted m.ts (entry_at l x at) total n t (f x j.good ∙ ap (λ (d : Entry). length (entry_bytes d)) j.is) m.sum c.0;
       low = c.1;
     }
 
@@ -169,20 +164,23 @@ module _ (l x out₀ out : List ℕ) (at o : ℕ) (m : Putting l x out₀ out at
       rw (ended l x (listed l x) at m.k m.ts m.before h)
       (put_then _ header (tokens_bytes m.ts) refl e₀ out₀ out 0 21 o (record { next = refl; stored = f }) m.put).stored
 
-  -- the list fits, and the item i is judged there
-  module _ (h : at < length l) (n : ℕ) (f : Fits (listed l x) n) (i : Option Item) (j : Judged x (entry_at l x at) i) where
-    next : Before l x (listed l x) (at + 16) (m.k - 1) (m.ts ++ entry_tokens (entry_at l x at))
-    next =
-        went l x (listed l x) at m.k m.ts m.before h
-        (λ z. subst (λ (J : Listed). Fits J n) (stopped l x (listed l x) at m.k m.ts m.before h z) f)
+  -- the list fits, and an item is judged there
+  pub putting_some : at < length l → (n : ℕ) → Fits (listed l x) n → (r : Option Item) → Judged x (entry_at l x at) r → IsSome r
+  putting_some h n f (Some i) j = refl
+  putting_some h n f None j = absurd (subst (λ (J : Listed). Fits J n) (stopped l x (listed l x) at m.k m.ts m.before h j) f)
 
-    pub putting_room : length out₀ ≡ n → (Room out o (entry_bytes (entry_is x i))) × GoodItem x i
+  -- the item i
+  module _ (h : at < length l) (n : ℕ) (f : Fits (listed l x) n) (i : Item) (j : Judged x (entry_at l x at) (Some i)) where
+    next : Before l x (listed l x) (at + 16) (m.k - 1) (m.ts ++ entry_tokens (entry_at l x at))
+    next = went l x (listed l x) at m.k m.ts m.before h i j
+
+    pub putting_room : length out₀ ≡ n → (Room out o (entry_bytes (entry_is x (Some i)))) × GoodItem x (Some i)
     putting_room g =
         let us = m.ts ++ entry_tokens (entry_at l x at) in
         let a = within (listed l x) (length (written_of us)) n (subst (λ (J : Listed). Above (length (written_of us)) J) next.rest (above (m.k - 1) l x (at + 16) us)) f in
         (rw j.is (omega (arith, a, more_length m.ts (entry_at l x at), written_length m.ts, m.put.next, m.kept, g)), j.good)
 
-    pub putting_on : (out' : List ℕ) (r : ℕ) → Put out out' o (entry_bytes (entry_is x i)) r → length out' ≡ length out → Putting l x out₀ out' (at + 16) r
+    pub putting_on : (out' : List ℕ) (r : ℕ) → Put out out' o (entry_bytes (entry_is x (Some i))) r → length out' ≡ length out → Putting l x out₀ out' (at + 16) r
     putting_on out' r p g = record {
       k = m.k - 1;
       ts = m.ts ++ entry_tokens (entry_at l x at);

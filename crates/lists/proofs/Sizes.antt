@@ -1,5 +1,5 @@
 -- The words of a number: its short form, the fewest bytes that hold it; and the length of written tokens. Assumes nothing.
-use Rattle.std.specs.Prelude.{Option, Some, None}
+use Rattle.std.specs.Prelude.{Some}
 use Rattle.std.proofs.Common.{◌≡◌, ℕ, zero, suc, ◌+◌, ◌-◌, ◌*◌, ◌/◌, ◌%◌, ◌^◌, ◌<◌, ◌≤◌, Bool, false, cond, List, [], ◌∷◌, ◌++◌, length, ℤ, pos, negsuc, ◌+ℤ◌, sym, refl, ap, ◌∙◌, lt_of_lt_of_le, mul_assoc, add-mul, one-mul, arith, length-append, pow_pos, pow_mono, pow-add, w32, to_z, le-ltb, lt-ltb, ne_eqb}
 use lib.Seq.{slice}
 use lib.IntN.{sub_ℕ}
@@ -170,30 +170,25 @@ rational_length a d k h n b =
 
 -- ---- the bytes of a judged token
 
-module _ (x : List ℕ) (i : Option Item) where
-  pub number_bytes : (a b : ℕ) → i ≡ Some (Number a b) → entry_bytes (entry_is x i) ≡ token_bytes (number_in a b)
+module _ (x : List ℕ) (i : Item) where
+  pub number_bytes : (a b : ℕ) → i ≡ Number a b → entry_bytes (entry_is x (Some i)) ≡ token_bytes (number_in a b)
   unfolding entry_bytes entry_is
   number_bytes a b e = rw e
 
-  pub identifier_bytes : (s n : ℕ) → i ≡ Some (Identifier s n) → entry_bytes (entry_is x i) ≡ sequence_bytes 5 (slice s (s + n) x)
+  pub identifier_bytes : (s n : ℕ) → i ≡ Identifier s n → entry_bytes (entry_is x (Some i)) ≡ sequence_bytes 5 (slice s (s + n) x)
   unfolding entry_bytes entry_is token_bytes
   identifier_bytes s n e = rw e
 
-  pub string_bytes : (s n : ℕ) → i ≡ Some (String s n) → entry_bytes (entry_is x i) ≡ sequence_bytes 1 (slice s (s + n) x)
+  pub string_bytes : (s n : ℕ) → i ≡ String s n → entry_bytes (entry_is x (Some i)) ≡ sequence_bytes 1 (slice s (s + n) x)
   unfolding entry_bytes entry_is token_bytes
   string_bytes s n e = rw e
 
-  pub operator_bytes_lem : (n : ℕ) → i ≡ Some (Operator n) → entry_bytes (entry_is x i) ≡ operator_bytes n
+  pub operator_bytes_lem : (n : ℕ) → i ≡ Operator n → entry_bytes (entry_is x (Some i)) ≡ operator_bytes n
   unfolding entry_bytes entry_is token_bytes
   operator_bytes_lem n e = rw e
 
-  pub none_bytes : i ≡ None → entry_bytes (entry_is x i) ≡ []
-  unfolding entry_bytes entry_is
-  none_bytes e = rw e
-
-pub small_item : (x : List ℕ) (i : Option Item) → GoodItem x i → Small i
-small_item x (Some (Number a b)) g = tt
-small_item x (Some (Identifier s n)) g = g.1
-small_item x (Some (String s n)) g = g.1
-small_item x (Some (Operator n)) g = tt
-small_item x None g = tt
+pub small_item : (x : List ℕ) (i : Item) → GoodItem x (Some i) → Small i
+small_item x (Number a b) g = tt
+small_item x (Identifier s n) g = g.1
+small_item x (String s n) g = g.1
+small_item x (Operator n) g = tt

@@ -7,9 +7,6 @@ use Rattle.lists.specs.Written.{bytes_of, sequence_bytes}
 use Rattle.lists.specs.Inner.{Room, Put, head_bytes}
 use Rattle.lists.proofs.HighBytes.{bytes_length}
 
-pub put_none : (l : List ℕ) (o : ℕ) → Put l l o [] o
-put_none l o = record { next = omega arith; stored = refl }
-
 -- bytes w that are a and then b: putting them in turn puts w
 module _ (w a b : List ℕ) (e : w ≡ a ++ b) where
   pub put_then : (l l₁ l₂ : List ℕ) (o p r : ℕ) → Put l l₁ o a p → Put l₁ l₂ p b r → Put l l₂ o w r

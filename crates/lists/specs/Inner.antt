@@ -1,5 +1,5 @@
 -- For the contracts of the writer's inner functions. In order: a length; bytes that are put; the two passes. Assumes nothing.
-use Rattle.std.specs.Prelude.{Result, Ok, Err, Option, Some, None}
+use Rattle.std.specs.Prelude.{Result, Ok, Err}
 use Rattle.tokens.specs.Refusal.{refusal_at}
 use Rattle.tokens.specs.declared.Refused.{Refused}
 use Rattle.tokens.specs.declared.Refusal.TheVariants.{NotWritable}
@@ -13,12 +13,11 @@ use Rattle.lists.specs.Written.{bytes_of, bytes_in, integer_bytes, sequence_byte
 use Rattle.items.specs.Listing.{Entry, writes, bad, Listed, all, wrong}
 
 -- a length that a word can say, where the item has one
-abbrev pub Small : Option Item → Type 0
-Small (Some (Number a b)) = Unit
-Small (Some (Identifier s n)) = n < 2147483648
-Small (Some (String s n)) = n < 2147483648
-Small (Some (Operator n)) = Unit
-Small None = Unit
+abbrev pub Small : Item → Type 0
+Small (Number a b) = Unit
+Small (Identifier s n) = n < 2147483648
+Small (String s n) = n < 2147483648
+Small (Operator n) = Unit
 
 -- ---- bytes that are put
 

@@ -12,8 +12,8 @@ ghost use Rattle.lists.specs.Promise.{Writes};
 ghost use Rattle.items.specs.Judged.{number_in, entry_is, GoodItem};
 ghost use Rattle.lists.specs.Inner.{Small, Room, Put, head_bytes, integer_sequence, entry_bytes, capped, measured_of, Fits, tokens_in};
 
-use crate::Measured;
-use items::Item;
+use items::{Item, item_at};
+use tokens::{Outcome, Refusal, Refused};
 
 // The most bytes of a sequence whose length is one byte.
 const SHORT: usize = 255;
@@ -176,27 +176,16 @@ fn put_number(out: &mut [u8], o: usize, num: u32, den: u32) -> usize
     put_rational(out, o, num, den)
 }
 
-// A judged token at `o`; nothing of one that cannot be written.
+// A judged token at `o`.
 fn put_item(out: &mut [u8], o: usize, x: &[u8], item: Item) -> usize
-    requires { (Room out.old o (entry_bytes (entry_is x.now item))) × GoodItem x.now item }
-    ensures { Put out.old out.new o (entry_bytes (entry_is x.now item)) result }
+    requires { (Room out.old o (entry_bytes (entry_is x.now (Some item)))) × GoodItem x.now (Some item) }
+    ensures { Put out.old out.new o (entry_bytes (entry_is x.now (Some item))) result }
 {
     match item {
-        Item::Number { num, den } => {
-            return put_number(out, o, num, den);
-        }
-        Item::Identifier { start, len } => {
-            return put_text(out, o, 5, x, start, len);
-        }
-        Item::String { start, len } => {
-            return put_text(out, o, 1, x, start, len);
-        }
-        Item::Operator { number } => {
-            return put_operator(out, o, number);
-        }
-        Item::Bad => {
-            return o;
-        }
+        Item::Number { num, den } => put_number(out, o, num, den),
+        Item::Identifier { start, len } => put_text(out, o, 5, x, start, len),
+        Item::String { start, len } => put_text(out, o, 1, x, start, len),
+        Item::Operator { number } => put_operator(out, o, number),
     }
 }
 
@@ -230,29 +219,17 @@ fn text_size(len: usize) -> usize
     4 + len
 }
 
-// The written length of a judged token: 0 of one that cannot be written, and of no other.
+// The written length of a judged token.
 fn size_of(item: Item) -> usize
     requires { Small item }
-    ensures { ((x : List ℕ) → GoodItem x item → result ≡ length (entry_bytes (entry_is x item))) × (result ≤ 2147483652) }
+    ensures { ((x : List ℕ) → GoodItem x (Some item) → result ≡ length (entry_bytes (entry_is x (Some item)))) × (result ≤ 2147483652) }
 {
     match item {
-        Item::Number { num, den } => {
-            return number_size(num, den);
-        }
-        Item::Identifier { start, len } => {
-            return text_size(len);
-        }
-        Item::String { start, len } => {
-            return text_size(len);
-        }
+        Item::Number { num, den } => number_size(num, den),
+        Item::Identifier { start: _, len } => text_size(len),
+        Item::String { start: _, len } => text_size(len),
         Item::Operator { number } => {
-            if number < 32 {
-                return 1;
-            }
-            return 2;
-        }
-        Item::Bad => {
-            return 0;
+            if number < 32 { 1 } else { 2 }
         }
     }
 }
@@ -263,21 +240,20 @@ fn cap(n: usize) -> usize
     if n <= 16777216 { n } else { 16777216 }
 }
 
-// Judges the whole list, and measures its written form.
-fn measure(list: &[u8], text: &[u8]) -> Measured
+// Judges the whole list, and measures its written form, up to 16777216; or the first token that cannot be written.
+fn measure(list: &[u8], text: &[u8]) -> Result<usize, Refused>
     ensures { result ≡ measured_of (listed list.now text.now) }
 {
     let mut at: usize = 0;
     let mut total: usize = 21;
     while at < list.len() {
-        let n = size_of(items::item_at(list, text, at));
-        if n == 0 {
-            return Measured::Wrong { index: at / 16 };
-        }
-        total = cap(total + n);
+        let Some(item) = item_at(list, text, at) else {
+            return Err(Refusal::NotWritable.met_at(at / 16));
+        };
+        total = cap(total + size_of(item));
         at += 16;
     }
-    Measured::Sum { len: total }
+    Ok(total)
 }
 
 // Puts a list that was judged and fits.
@@ -289,37 +265,20 @@ fn put_all(list: &[u8], text: &[u8], out: &mut [u8])
     let mut at: usize = 0;
     let mut o: usize = 21;
     while at < list.len() {
-        o = put_item(out, o, text, items::item_at(list, text, at));
+        let item = item_at(list, text, at).unwrap();
+        o = put_item(out, o, text, item);
         at += 16;
     }
 }
 
 // Writes a token list with its text table, and answers the written length.
-pub fn write(list: &[u8], text: &[u8], out: &mut [u8]) -> tokens::Outcome
+pub fn write(list: &[u8], text: &[u8], out: &mut [u8]) -> Outcome
     ensures { Writes list.now text.now out.old out.new result }
 {
-    match measure(list, text) {
-        Measured::Wrong { index } => {
-            return tokens::Outcome::Refused {
-                refusal: tokens::Refusal::NotWritable,
-                place: index,
-            };
-        }
-        Measured::Sum { len } => {
-            if tokens::header::LONGEST < len {
-                return tokens::Outcome::Refused {
-                    refusal: tokens::Refusal::NoRoom,
-                    place: 0,
-                };
-            }
-            if out.len() < len {
-                return tokens::Outcome::Refused {
-                    refusal: tokens::Refusal::NoRoom,
-                    place: 0,
-                };
-            }
-            put_all(list, text, out);
-            return tokens::Outcome::Done { value: len };
-        }
+    let len = measure(list, text)?;
+    if tokens::header::LONGEST < len || out.len() < len {
+        return Err(Refusal::NoRoom.met_at(0));
     }
+    put_all(list, text, out);
+    Ok(len)
 }

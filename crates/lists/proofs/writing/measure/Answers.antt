@@ -1,8 +1,15 @@
 -- `writing::measure` meets its contract: a turn of the first pass, proofs/Passes.antt. Assumes nothing.
-use Rattle.std.proofs.Common.{arith}
+use Rattle.std.specs.Prelude.{Err, Some}
+use Rattle.std.proofs.Common.{ap, ◌∙◌, arith}
+use Rattle.items.specs.Listing.{entry_at}
+use Rattle.items.specs.Judged.{Judged}
 use Rattle.lists.proofs.Sizes.{small_item}
 use Rattle.lists.proofs.Passes.{measuring_start, measuring_end, measuring_wrong, measuring_on}
 use Rattle.lists.proofs.writing.measure.Goals as goal
+use Rattle.lists.proofs.writing.measure.Goals.{In-Some}
+
+judged : (c : In-Some) → Judged c.args.text.now (entry_at c.args.list.now c.args.text.now c.loop-at.at) (Some c.in-Some.item)
+judged c = rw c.in-Some.is at c.item_at.ensures
 
 pub loop-at-init : goal.loop-at-init
 loop-at-init c = measuring_start c.args.list.now c.args.text.now
@@ -10,18 +17,15 @@ loop-at-init c = measuring_start c.args.list.now c.args.text.now
 pub item_at-requires : goal.item_at-requires
 item_at-requires c = omega arith
 
-pub size_of-n-requires : goal.size_of-n-requires
-size_of-n-requires c = small_item c.args.text.now c.item_at.result c.item_at.ensures.good
+pub returns-in_default : goal.returns-in_default
+returns-in_default c =
+    let a = c.args in let o = c.loop-at in ap Err c.met_at.ensures ∙ measuring_wrong a.list.now a.text.now o.at o.total o.invariant (omega arith) (rw c.in_default.is at c.item_at.ensures)
 
-pub returns-then-n-eq0 : goal.returns-then-n-eq0
-returns-then-n-eq0 c =
-    let a = c.args in let o = c.loop-at in measuring_wrong a.list.now a.text.now o.at o.total o.invariant (omega arith) c.item_at.result c.item_at.ensures _ c.size_of-n.ensures.0 c.if-n-eq0.true
+pub size_of-requires : goal.size_of-requires
+size_of-requires c = small_item c.args.text.now c.in-Some.item (judged (goal.at.size_of-requires c).In-Some).good
 
 pub overflow_add-total : goal.overflow_add-total
-overflow_add-total c = omega (arith, c.size_of-n.ensures.1, c.loop-at.invariant.low)
-
-pub cap-total-requires : goal.cap-total-requires
-cap-total-requires c = tt
+overflow_add-total c = omega (arith, c.size_of.ensures.1, c.loop-at.invariant.low)
 
 pub overflow_add-at : goal.overflow_add-at
 overflow_add-at c = omega arith
@@ -31,7 +35,7 @@ loop-at-smaller c = omega arith
 
 pub loop-at-preserved : goal.loop-at-preserved
 loop-at-preserved c =
-    let a = c.args in let o = c.loop-at in measuring_on a.list.now a.text.now o.at o.total o.invariant (omega arith) c.item_at.result c.item_at.ensures _ c.size_of-n.ensures.0 c.if-n-eq0.false _ c.cap-total.ensures
+    let a = c.args in let o = c.loop-at in measuring_on a.list.now a.text.now o.at o.total o.invariant (omega arith) _ (judged (goal.at.loop-at-preserved c).In-Some) _ c.size_of.ensures.0 _ c.cap-total.ensures
 
 pub returns : goal.returns
 returns c =

@@ -1,7 +1,6 @@
 -- `writing::put_item` meets its contract. Assumes nothing.
 use Rattle.std.proofs.Common.{arith}
-use Rattle.lists.proofs.Storing.{put_none}
-use Rattle.lists.proofs.Sizes.{number_bytes, identifier_bytes, string_bytes, operator_bytes_lem, none_bytes}
+use Rattle.lists.proofs.Sizes.{number_bytes, identifier_bytes, string_bytes, operator_bytes_lem}
 use Rattle.lists.proofs.writing.put_item.Goals as goal
 
 pub put_number-requires : goal.put_number-requires
@@ -35,7 +34,3 @@ put_operator-requires c =
 pub returns-in-Operator : goal.returns-in-Operator
 returns-in-Operator c =
     let a = c.args in rw (operator_bytes_lem a.x.now a.item _ c.in-Operator.is) c.put_operator.ensures
-
-pub returns-in-Bad : goal.returns-in-Bad
-returns-in-Bad c =
-    let a = c.args in rw (none_bytes a.x.now a.item c.in-Bad.is) (put_none a.out.now a.o)

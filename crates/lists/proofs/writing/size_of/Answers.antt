@@ -2,7 +2,7 @@
 use Rattle.std.proofs.Common.{length, sym, ap, ◌∙◌, arith}
 use Rattle.lists.proofs.Storing.{text_size}
 use Rattle.lists.proofs.OperatorBack.{operator_short, operator_long}
-use Rattle.lists.proofs.Sizes.{number_bytes, identifier_bytes, string_bytes, operator_bytes_lem, none_bytes}
+use Rattle.lists.proofs.Sizes.{number_bytes, identifier_bytes, string_bytes, operator_bytes_lem}
 use Rattle.lists.proofs.writing.size_of.Goals as goal
 
 pub returns-in-Number : goal.returns-in-Number
@@ -27,9 +27,6 @@ pub returns-then-number-lt32 : goal.returns-then-number-lt32
 returns-then-number-lt32 c =
     (λ x g. sym (ap length (operator_bytes_lem x c.args.item _ c.in-Operator.is ∙ operator_short _ c.if-number-lt32.true)), omega arith)
 
-pub returns-in-Operator : goal.returns-in-Operator
-returns-in-Operator c =
+pub returns-else-number-lt32 : goal.returns-else-number-lt32
+returns-else-number-lt32 c =
     (λ x g. sym (ap length (operator_bytes_lem x c.args.item _ c.in-Operator.is ∙ operator_long _ c.if-number-lt32.false)), omega arith)
-
-pub returns-in-Bad : goal.returns-in-Bad
-returns-in-Bad c = (λ x g. sym (ap length (none_bytes x c.args.item c.in-Bad.is)), omega arith)
