@@ -187,13 +187,13 @@ pub fn data_size(s: &[u8], at: usize) -> usize
     if at >= s.len() {
         return 0;
     }
-    let Some(Piece { start, len }) = piece_at(s, at) else {
+    let Some(piece) = piece_at(s, at) else {
         return 0;
     };
-    if !is_continued_at(s, start + len) {
-        return len;
+    if !is_continued_at(s, piece.start + piece.len) {
+        return piece.len;
     }
-    match gather(31, s, start, len) {
+    match gather(31, s, piece.start, piece.len) {
         Ok(whole) => whole.sum.len,
         Err(_) => 0,
     }

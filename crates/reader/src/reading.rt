@@ -10,7 +10,7 @@ use crate::single::single;
 use pieces::sequences::{gather, is_continued_at, piece_at};
 use tokens::bits::low5;
 use tokens::forms::form_at;
-use tokens::{Form, Piece, Read, Refusal, Refused};
+use tokens::{Form, Read, Refusal, Refused};
 
 // The sequence token at `at`. Most are in a single piece; the data of any other are joined.
 pub fn sequence_at(s: &[u8], at: usize) -> Result<Read, Refused>
@@ -18,13 +18,13 @@ pub fn sequence_at(s: &[u8], at: usize) -> Result<Read, Refused>
     ensures { result ≡ sequence (get_or s.now at 0 % 32) at (joined_at s.now at) }
 {
     let k = low5(s[at]);
-    let Some(Piece { start, len }) = piece_at(s, at) else {
+    let Some(piece) = piece_at(s, at) else {
         return Err(Refusal::CutOff.met_at(at));
     };
-    if !is_continued_at(s, start + len) {
-        return single(k, at, s, start, len);
+    if !is_continued_at(s, piece.start + piece.len) {
+        return single(k, at, s, piece.start, piece.len);
     }
-    let whole = gather(k, s, start, len)?;
+    let whole = gather(k, s, piece.start, piece.len)?;
     judge(k, at, whole.sum, whole.next)
 }
 

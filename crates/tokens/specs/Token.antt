@@ -6,7 +6,6 @@ use Rattle.tokens.specs.Refusal.{refusal_at}
 use Rattle.tokens.specs.declared.Refused.{Refused}
 use Rattle.std.specs.Prelude.{ℕ, ◌+◌, ◌*◌, ◌/◌, ◌%◌, List, Bool, cond, ◌&&◌, ltb, leb, eqb, length, get_or, take, drop, ℤ, pos, ◌-ℤ◌}
 use Rattle.numbers.specs.Fraction.{Answer}
-use Rattle.numbers.specs.declared.NoNumber.TheVariants.{TooLarge, ByZero}
 use Rattle.numbers.specs.Fraction.{ratio_of}
 use Rattle.tokens.specs.declared.Read.{Read}
 use Rattle.tokens.specs.declared.Read.TheVariants.{Number, Identifier, String, Operator, Comment}
@@ -20,8 +19,7 @@ use Rattle.tokens.specs.Joined.{Joined, whole, cut_at, joined_at}
 -- a number's token, or 4 where there is no such number
 unfoldable pub number_read : ℕ → ℕ → Answer → Result Read Refused
 number_read at next (Ok value) = Ok (Number value next)
-number_read at next (Err TooLarge) = Err (refusal_at BadData at)
-number_read at next (Err ByZero) = Err (refusal_at BadData at)
+number_read at next (Err why) = Err (refusal_at BadData at)
 
 -- "1 to 4 bytes"
 abbrev pub integer_size : ℕ → Bool

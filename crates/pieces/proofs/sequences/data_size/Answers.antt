@@ -11,8 +11,8 @@ returns-then-at-s c = none_past _ _ (omega arith)
 pub returns-in_default : goal.returns-in_default
 returns-in_default c = none_missing _ _ (sym c.piece_at.ensures ∙ c.in_default.is)
 
-pub overflow_add-start : goal.overflow_add-start
-overflow_add-start c =
+pub overflow_add-piece : goal.overflow_add-piece
+overflow_add-piece c =
     omega (arith, (subst (Inside (length c.args.s.now) c.args.at) (sym c.piece_at.ensures ∙ c.in-Some.is) (inside c.args.s.now c.args.at)).1, c.well_formed)
 
 pub returns-then-not-is_continued_at : goal.returns-then-not-is_continued_at

@@ -1,12 +1,13 @@
 -- `judging::judge_integer` meets its contract. Assumes nothing.
+use Rattle.std.specs.Prelude.{Err}
 use Rattle.tokens.proofs.Sizes.{ruled_is, ruled_not, integer_few}
 use Prim.Native.Nat.{◌≤◌}
 use native.Mathlib.Omega.{arith}
-use mathlib.Core.Path.{sym, ◌∙◌}
+use mathlib.Core.Path.{sym, ◌∙◌, ap}
 use Rattle.reader.proofs.judging.judge_integer.Goals as goal
 
 pub returns-then-not-integer_size : goal.returns-then-not-integer_size
-returns-then-not-integer_size c = ruled_not _ _ _ _ (sym c.integer_size.ensures ∙ c.if-not-integer_size.true) c.bad_data.ensures
+returns-then-not-integer_size c = ruled_not _ _ _ _ (sym c.integer_size.ensures ∙ c.if-not-integer_size.true) (ap Err c.met_at.ensures)
 
 pub integer-requires : goal.integer-requires
 integer-requires c =

@@ -1,12 +1,13 @@
 -- `judging::judge_rational` meets its contract. Assumes nothing.
+use Rattle.std.specs.Prelude.{Err}
 use Prim.Native.Nat.{◌/◌, ◌+◌, ◌*◌}
 use Rattle.tokens.proofs.Sizes.{ruled_is, ruled_not, rational_few}
 use native.Mathlib.Omega.{arith}
-use mathlib.Core.Path.{◌≡◌, sym, ◌∙◌}
+use mathlib.Core.Path.{◌≡◌, sym, ◌∙◌, ap}
 use Rattle.reader.proofs.judging.judge_rational.Goals as goal
 
 pub returns-then-not-rational_size : goal.returns-then-not-rational_size
-returns-then-not-rational_size c = ruled_not _ _ _ _ (sym c.rational_size.ensures ∙ c.if-not-rational_size.true) c.bad_data.ensures
+returns-then-not-rational_size c = ruled_not _ _ _ _ (sym c.rational_size.ensures ∙ c.if-not-rational_size.true) (ap Err c.met_at.ensures)
 
 pub rational-requires : goal.rational-requires
 rational-requires c =

@@ -1,14 +1,13 @@
+-- `judging::number_read` meets its contract. Assumes nothing.
+use mathlib.Core.Path.{ap, ◌∙◌}
+use Rattle.std.specs.Prelude.{Err}
 use Rattle.tokens.specs.Token.{number_read}
 use Rattle.reader.proofs.judging.number_read.Goals as goal
 
-pub returns-in-Is : goal.returns-in-Is
+pub returns-in-Ok : goal.returns-in-Ok
 unfolding number_read
-returns-in-Is c = rw c.in-Is.is
+returns-in-Ok c = rw c.in-Ok.is
 
-pub returns-in-TooLarge : goal.returns-in-TooLarge
+pub returns-in-Err : goal.returns-in-Err
 unfolding number_read
-returns-in-TooLarge c = rw (c.in-TooLarge.is, c.bad_data.ensures)
-
-pub returns-in-ByZero : goal.returns-in-ByZero
-unfolding number_read
-returns-in-ByZero c = rw (c.in-ByZero.is, c.bad_data-in-ByZero.ensures)
+returns-in-Err c = ap Err c.met_at.ensures ∙ rw c.in-Err.is

@@ -17,59 +17,60 @@ use lib.ListN.{length, get_or}
 use lib.Seq.{slice}
 use native.Mathlib.Omega.{arith}
 use mathlib.Core.Path.{◌≡◌, sym, ap, ◌∙◌}
+use Rattle.std.proofs.lemmas.Result.{err_from_is_err_and}
 use Rattle.reader.proofs.reading.sequence_at.Goals as goal
-use Rattle.reader.proofs.reading.sequence_at.Goals.{In-Data}
+use Rattle.reader.proofs.reading.sequence_at.Goals.{In-Some}
 
-data_is : (c : In-Data) → piece_at c.args.s.now c.args.at ≡ Some (piece_from c.in-Data.start c.in-Data.len)
-data_is c = sym c.piece_at.ensures ∙ c.in-Data.is
+data_is : (c : In-Some) → piece_at c.args.s.now c.args.at ≡ Some (piece_from c.in-Some.piece.start c.in-Some.piece.len)
+data_is c = sym c.piece_at.ensures ∙ c.in-Some.is
 
-ends : (c : In-Data) → c.in-Data.start + c.in-Data.len ≤ length c.args.s.now
+ends : (c : In-Some) → c.in-Some.piece.start + c.in-Some.piece.len ≤ length c.args.s.now
 ends c =
     let a = c.args in
-    let w : Inside (length a.s.now) a.at (Some (piece_from c.in-Data.start c.in-Data.len)) = rw (data_is c) at (inside a.s.now a.at) in
+    let w : Inside (length a.s.now) a.at (Some (piece_from c.in-Some.piece.start c.in-Some.piece.len)) = rw (data_is c) at (inside a.s.now a.at) in
     w.1
 
 -- ---- what is answered
 
-pub returns-in-Missing : goal.returns-in-Missing
+pub returns-in_default : goal.returns-in_default
 unfolding sequence
-returns-in-Missing c =
+returns-in_default c =
     let a = c.args in
-    c.cut_off.ensures ∙ rw (joined_missing a.s.now a.at (sym c.piece_at.ensures ∙ c.in-Missing.is))
+    ap Err c.met_at.ensures ∙ rw (joined_missing a.s.now a.at (sym c.piece_at.ensures ∙ c.in_default.is))
 
-pub overflow_add-start : goal.overflow_add-start
-overflow_add-start c = omega (arith, ends (goal.at.overflow_add-start c).In-Data, c.well_formed)
+pub overflow_add-piece : goal.overflow_add-piece
+overflow_add-piece c = omega (arith, ends (goal.at.overflow_add-piece c).In-Some, c.well_formed)
 
 pub single-requires : goal.single-requires
-single-requires c = ends (goal.at.single-requires c).In-Data
+single-requires c = ends (goal.at.single-requires c).In-Some
 
 pub returns-then-not-is_continued_at : goal.returns-then-not-is_continued_at
 returns-then-not-is_continued_at c =
     let a = c.args in
-    let f : ℕ = c.in-Data.start in
-    let n : ℕ = c.in-Data.len in
+    let f : ℕ = c.in-Some.piece.start in
+    let n : ℕ = c.in-Some.piece.len in
     let e = ap (λ (k : ℕ). judged k a.at (slice f (f + n) a.s.now) (f + n)) c.low5-k.ensures in
-    c.single.ensures ∙ e ∙ sym (sequence_one (get_or a.s.now a.at 0 % 32) a.s.now a.at f n (data_is (goal.at.returns-then-not-is_continued_at c).In-Data) (sym c.is_continued_at.ensures ∙ c.if-not-is_continued_at.true))
+    c.single.ensures ∙ e ∙ sym (sequence_one (get_or a.s.now a.at 0 % 32) a.s.now a.at f n (data_is (goal.at.returns-then-not-is_continued_at c).In-Some) (sym c.is_continued_at.ensures ∙ c.if-not-is_continued_at.true))
 
 pub gather-requires : goal.gather-requires
-gather-requires c = ends (goal.at.gather-requires c).In-Data
+gather-requires c = ends (goal.at.gather-requires c).In-Some
 
-pub returns-in-Broken : goal.returns-in-Broken
-returns-in-Broken c =
+pub returns-in_err-whole : goal.returns-in_err-whole
+returns-in_err-whole c =
     let a = c.args in
     let k : ℕ = get_or a.s.now a.at 0 % 32 in
-    let j = joined_data a.s.now a.at _ _ (data_is (goal.at.returns-in-Broken c).In-Data) in
-    let g : gathered_of k (joined_at a.s.now a.at) ≡ Err (refusal_at CutOff c.in-Broken.place) = rw (j, ← c.low5-k.ensures) (sym c.gather.ensures.0 ∙ c.in-Broken.is) in
-    c.cut_off-in-Broken.ensures ∙ sequence_broken k a.at (joined_at a.s.now a.at) _ g
+    let j = joined_data a.s.now a.at _ _ (data_is (goal.at.returns-in_err-whole c).In-Some) in
+    let p = err_from_is_err_and c.from_residual.result c.from_residual.ensures.1 in
+    rw (p.1, p.2) (sequence_broken k a.at (joined_at a.s.now a.at) _ (rw (j, ← c.low5-k.ensures) (sym c.gather.ensures.0 ∙ c.in_err-whole.was)))
 
 pub judge-requires : goal.judge-requires
-judge-requires c = rw c.in-Whole.is at c.gather.ensures.1
+judge-requires c = rw c.in_ok-whole.was at c.gather.ensures.1
 
-pub returns-in-Whole : goal.returns-in-Whole
-returns-in-Whole c =
+pub returns : goal.returns
+returns c =
     let a = c.args in
     let k : ℕ = get_or a.s.now a.at 0 % 32 in
-    let j = joined_data a.s.now a.at _ _ (data_is (goal.at.returns-in-Whole c).In-Data) in
-    let g : gathered_of k (joined_at a.s.now a.at) ≡ Ok (gathered c.in-Whole.sum c.in-Whole.next) = rw (j, ← c.low5-k.ensures) (sym c.gather.ensures.0 ∙ c.in-Whole.is) in
+    let j = joined_data a.s.now a.at _ _ (data_is (goal.at.returns c).In-Some) in
+    let g : gathered_of k (joined_at a.s.now a.at) ≡ Ok (gathered c.in_ok-whole.whole.sum c.in_ok-whole.whole.next) = rw (j, ← c.low5-k.ensures) (sym c.gather.ensures.0 ∙ c.in_ok-whole.was) in
     let s : Bytes a.s.now = (λ i. omega (arith, c.type_inv.s i)) in
-    c.judge.ensures ∙ ap (λ (t : ℕ). judged_by t a.at c.in-Whole.sum c.in-Whole.next) c.low5-k.ensures ∙ sequence_whole k a.at (joined_at a.s.now a.at) _ _ (joined_bytes a.s.now a.at s) g
+    c.judge.ensures ∙ ap (λ (t : ℕ). judged_by t a.at c.in_ok-whole.whole.sum c.in_ok-whole.whole.next) c.low5-k.ensures ∙ sequence_whole k a.at (joined_at a.s.now a.at) _ _ (joined_bytes a.s.now a.at s) g

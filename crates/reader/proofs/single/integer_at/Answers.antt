@@ -1,4 +1,5 @@
 -- `single::integer_at` meets its contract. Assumes nothing.
+use Rattle.std.specs.Prelude.{Err}
 use Rattle.numbers.specs.Fraction.{ratio_of}
 use Rattle.tokens.specs.Bytes.{signed_of}
 use Rattle.tokens.specs.Token.{number_read}
@@ -15,7 +16,7 @@ few : (c : Else-not-integer_size) → c.args.len ≤ 4
 few c = integer_few _ (sym c.integer_size.ensures ∙ c.if-not-integer_size.false)
 
 pub returns-then-not-integer_size : goal.returns-then-not-integer_size
-returns-then-not-integer_size c = ruled_not _ _ _ _ (sym c.integer_size.ensures ∙ c.if-not-integer_size.true) c.bad_data.ensures
+returns-then-not-integer_size c = ruled_not _ _ _ _ (sym c.integer_size.ensures ∙ c.if-not-integer_size.true) (ap Err c.met_at.ensures)
 
 pub value_after-requires : goal.value_after-requires
 value_after-requires c =

@@ -1,4 +1,5 @@
 -- `single::rational_at` meets its contract: the value of two halves. Assumes nothing.
+use Rattle.std.specs.Prelude.{Err}
 use Rattle.tokens.specs.Inner.{rational_by}
 use Rattle.tokens.specs.Token.{number_read}
 use Rattle.tokens.proofs.Ends.{slice_bytes}
@@ -18,7 +19,7 @@ few : (c : Else-not-rational_size) → (c.args.len % 2 ≡ 0) × (c.args.len ≤
 few c = rational_few _ (sym c.rational_size.ensures ∙ c.if-not-rational_size.false)
 
 pub returns-then-not-rational_size : goal.returns-then-not-rational_size
-returns-then-not-rational_size c = ruled_not _ _ _ _ (sym c.rational_size.ensures ∙ c.if-not-rational_size.true) c.bad_data.ensures
+returns-then-not-rational_size c = ruled_not _ _ _ _ (sym c.rational_size.ensures ∙ c.if-not-rational_size.true) (ap Err c.met_at.ensures)
 
 pub value_after-requires : goal.value_after-requires
 value_after-requires c =
