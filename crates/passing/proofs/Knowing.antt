@@ -5,7 +5,7 @@ use Rattle.tokens.specs.Refusal.{refusal_at}
 use Rattle.tokens.specs.declared.Refused.{Refused}
 use Rattle.tokens.specs.Joined.{piece_from}
 use Rattle.tokens.specs.Inner.{gathered}
-use mathlib.Core.Path.{◌≡◌, refl, sym, ◌∙◌}
+use mathlib.Core.Path.{◌≡◌, refl, sym, ap, ◌∙◌}
 use mathlib.Core.Bool.{Bool, true, false, false≢true}
 use mathlib.Core.List.{List}
 use Prim.Native.Nat.{ℕ, ◌+◌, ◌%◌, ◌<◌, ◌≤◌}
@@ -72,9 +72,6 @@ module _ (s : List ℕ) (at : ℕ) (f : Form) (h : Shows s at f) where
   pub past_operator : (n next : ℕ) → f ≡ form.Operator n next → pass_of (token_at s at) ≡ Ok next
   unfolding pass_of
   past_operator n next e = rw (rw e at h)
-
-  pub shown_cut : f ≡ form.Cut → Reads (token_at s at) → ⊥
-  shown_cut e r = rw (rw e at h) at r
 
 -- ---- a sequence judged
 
@@ -176,15 +173,16 @@ module _ (s : List ℕ) (at f n : ℕ) (p : piece_at s at ≡ Some (piece_from f
   extends_more k g sum past u v x a b d next e =
       let t : joined_from (length s) s (f + n) (slice f (f + n) s) ≡ whole d next = sym (joined_data s at f n p) ∙ e in
       let w : Ok (gathered sum past) ≡ Ok (gathered (summary_of k d) next) = sym v ∙ rw t at u in
-      let y : sum ≡ summary_of k d = cc in
-      let z : past ≡ next = cc in
+      let both : gathered sum past ≡ gathered (summary_of k d) next = cc in
+      let y : sum ≡ summary_of k d = ap (λ (q : Gathered). q.sum) both in
+      let z : past ≡ next = ap (λ (q : Gathered). q.next) both in
       (a ∙ rw y (summary_length k d), b ∙ z)
 
-  pub extends_broken : (k : ℕ) (g : Result Gathered Refused) (place : ℕ) → g ≡ gathered_of k (joined_from (length s) s (f + n) (slice f (f + n) s)) → g ≡ Err (refusal_at CutOff place) → (x : Extent) → Extends s at x
+  pub extends_broken : (k : ℕ) (g : Result Gathered Refused) (r : Refused) → g ≡ gathered_of k (joined_from (length s) s (f + n) (slice f (f + n) s)) → g ≡ Err r → (x : Extent) → Extends s at x
   unfolding gathered_of
-  extends_broken k g place u v x d next e =
+  extends_broken k g r u v x d next e =
       let t : joined_from (length s) s (f + n) (slice f (f + n) s) ≡ whole d next = sym (joined_data s at f n p) ∙ e in
-      let w : Err (refusal_at CutOff place) ≡ Ok (gathered (summary_of k d) next) = sym v ∙ rw t at u in
+      let w : Err r ≡ Ok (gathered (summary_of k d) next) = sym v ∙ rw t at u in
       absurd (false≢true (cc))
 
 pub extends_missing : (s : List ℕ) (at : ℕ) → piece_at s at ≡ None → (x : Extent) → Extends s at x

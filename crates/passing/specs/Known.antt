@@ -1,19 +1,13 @@
 -- Tokens of bytes that have been judged: for contracts of inner functions alone. Assumes nothing.
-use Rattle.std.specs.Prelude.{Result, Ok, Err}
+use Rattle.std.specs.Prelude.{ℕ, ◌≡◌, List, length, Result, Ok, Err}
 use Rattle.tokens.specs.declared.Refused.{Refused}
-use Rattle.std.specs.Prelude.{ℕ, ◌≡◌, List, length}
 use Rattle.tokens.specs.declared.Read.{Read}
-use Rattle.tokens.specs.declared.Read.TheVariants.{Number, Identifier, String, Operator, Comment}
 use Rattle.tokens.specs.Joined.{whole, joined_at}
 use Rattle.passing.specs.declared.Extent.{Extent}
 
 -- it is a token and no refusal
 abbrev pub Reads : Result Read Refused → Type 0
-Reads (Ok (Number value next)) = Unit
-Reads (Ok (Identifier len next)) = Unit
-Reads (Ok (String count next)) = Unit
-Reads (Ok (Operator n next)) = Unit
-Reads (Ok (Comment next)) = Unit
+Reads (Ok token) = Unit
 Reads (Err w) = ⊥
 
 -- the sequence token at `at`, if it is not cut off, has so many bytes of data, and ends there

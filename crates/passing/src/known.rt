@@ -1,14 +1,13 @@
 // Tokens of bytes that have been judged, and are known to be read: told by their first bytes and their lengths, and not judged again.
 ghost use Rattle.std.specs.Prelude.{◌≡◌, ◌<◌, length};
-ghost use Rattle.tokens.specs.declared.Pass.TheVariants.{Over};
 ghost use Rattle.tokens.specs.Token.{token_at};
 ghost use Rattle.tokens.specs.Passing.{Shows, pass_of};
 ghost use Rattle.passing.specs.Known.{Reads, Extends};
 
 use crate::Extent;
 use pieces::sequences::{gather, is_continued_at, piece_at};
+use tokens::Form;
 use tokens::bits::{low5, op_number, short15};
-use tokens::{Form, Gathered, Piece};
 
 // What the first bytes at `at` tell, as `tokens::forms::form_at` does.
 pub fn form(s: &[u8], at: usize) -> Form
@@ -42,36 +41,36 @@ pub fn extent(s: &[u8], at: usize) -> Extent
     requires { at < length s.now }
     ensures { Extends s.now at result }
 {
-    match piece_at(s, at) {
-        Piece::Data { start, len } => {
-            let next = start + len;
-            if !is_continued_at(s, next) {
-                return Extent { len, next };
-            }
-            match gather(31, s, start, len) {
-                Gathered::Whole { sum, next: past } => Extent {
-                    len: sum.len,
-                    next: past,
-                },
-                Gathered::Broken { place } => Extent {
-                    len: 0,
-                    next: place,
-                },
-            }
-        }
-        Piece::Missing => Extent { len: 0, next: at },
+    let Some(piece) = piece_at(s, at) else {
+        return Extent { len: 0, next: at };
+    };
+    let next = piece.start + piece.len;
+    if !is_continued_at(s, next) {
+        return Extent {
+            len: piece.len,
+            next,
+        };
+    }
+    match gather(31, s, piece.start, piece.len) {
+        Ok(whole) => Extent {
+            len: whole.sum.len,
+            next: whole.next,
+        },
+        Err(refused) => Extent {
+            len: 0,
+            next: refused.place,
+        },
     }
 }
 
 // Past the token at `at`.
 pub fn past(s: &[u8], at: usize) -> usize
     requires { Reads (token_at s.now at) }
-    ensures { pass_of (token_at s.now at) ≡ Over result }
+    ensures { pass_of (token_at s.now at) ≡ Ok result }
 {
     match form(s, at) {
         Form::Number { raw: _, next } => next,
         Form::Operator { number: _, next } => next,
         Form::Sequence => extent(s, at).next,
-        Form::Cut => at,
     }
 }

@@ -5,7 +5,6 @@
 ghost use Rattle.std.specs.Prelude.{◌≡◌, true, ℕ, ◌+◌, ◌/◌, ◌<◌, ◌≤◌, length, get_or, pos};
 ghost use Rattle.std.proofs.Math.Seq.{slice};
 ghost use Rattle.numbers.specs.Fraction.{ratio_of};
-ghost use Rattle.tokens.specs.declared.Pass.TheVariants.{Over};
 ghost use Rattle.tokens.specs.Token.{integer_size, rational_size, integer_in, rational_in, judged, token_at};
 ghost use Rattle.tokens.specs.Passing.{pass_of, Answered};
 
@@ -15,7 +14,7 @@ use pieces::values::{integer_size, rational_size, value_after};
 use reader::reading::read_token;
 use reader::single::is_name;
 use tokens::bits::low5;
-use tokens::{Pass, Piece, Read, Rule};
+use tokens::{Refused, Rule};
 
 pub mod known; // tokens that have been judged
 
@@ -61,7 +60,7 @@ fn is_rational(s: &[u8], start: usize, len: usize) -> bool
 // The data of a sequence of type `k` obey its rule: seen at once, so that `false` says nothing.
 fn is_sound(k: u8, s: &[u8], start: usize, len: usize) -> bool
     requires { start + len ≤ length s.now }
-    ensures { result ≡ true → (at next : ℕ) → pass_of (judged k at (slice start (start + len) s.now) next) ≡ Over next }
+    ensures { result ≡ true → (at next : ℕ) → pass_of (judged k at (slice start (start + len) s.now) next) ≡ Ok next }
 {
     if k == 1 {
         return all_obey(Rule::Plain, s, start, len);
@@ -78,31 +77,18 @@ fn is_sound(k: u8, s: &[u8], start: usize, len: usize) -> bool
     k == 6
 }
 
-fn pass_of(token: Read) -> Pass
-    ensures { result ≡ pass_of token }
-{
-    match token {
-        Read::Number { value: _, next } => Pass::Over { next },
-        Read::Identifier { len: _, next } => Pass::Over { next },
-        Read::String { count: _, next } => Pass::Over { next },
-        Read::Operator { number: _, next } => Pass::Over { next },
-        Read::Comment { next } => Pass::Over { next },
-        Read::Unread { refusal, place } => Pass::Unread { refusal, place },
-    }
-}
-
 // Past the sequence token at `at`.
-pub fn pass_sequence(s: &[u8], at: usize) -> Pass
+pub fn pass_sequence(s: &[u8], at: usize) -> Result<usize, Refused>
     requires { (at < length s.now) × (192 ≤ get_or s.now at 0) }
     ensures { result ≡ pass_of (token_at s.now at) }
 {
-    if let Piece::Data { start, len } = piece_at(s, at) {
-        let next = start + len;
+    if let Some(piece) = piece_at(s, at) {
+        let next = piece.start + piece.len;
         if !is_continued_at(s, next) {
-            if is_sound(low5(s[at]), s, start, len) {
-                return Pass::Over { next };
+            if is_sound(low5(s[at]), s, piece.start, piece.len) {
+                return Ok(next);
             }
         }
     }
-    pass_of(read_token(s, at))
+    Ok(read_token(s, at)?.next_place())
 }

@@ -6,6 +6,7 @@ pub mod refusals; // every refusal of the product by number
 pub mod header; // the header of a master
 pub mod bits; // fields of a token's first bytes
 pub mod forms; // the form of the token at a place
+mod reads; // the place after a token
 
 // Why an input is refused, by its number (document 01, Outcomes and numbers).
 #[derive(Clone, Copy, Debug, PartialEq, Eq)]

@@ -8,25 +8,32 @@ use lib.ListN.{length}
 use Prim.Native.Nat.{◌+◌}
 use native.Mathlib.Omega.{arith}
 use mathlib.Core.Path.{sym, ap, ◌∙◌}
+use Rattle.std.proofs.lemmas.Result.{err_from_is_err_and}
 use Rattle.passing.proofs.pass_sequence.Goals as goal
 
 pub overflow_add-next : goal.overflow_add-next
 overflow_add-next c =
     let a = c.args in
-    let w : Inside (length a.s.now) a.at (Some (piece_from c.in-Data.start c.in-Data.len)) = rw (← c.piece_at.ensures, c.in-Data.is) at (inside a.s.now a.at) in
+    let w : Inside (length a.s.now) a.at (Some (piece_from c.in-Some.piece.start c.in-Some.piece.len)) = rw (← c.piece_at.ensures, c.in-Some.is) at (inside a.s.now a.at) in
     omega (arith, w.1, c.well_formed)
 
 pub is_sound-requires : goal.is_sound-requires
 is_sound-requires c =
     let a = c.args in
-    let w : Inside (length a.s.now) a.at (Some (piece_from c.in-Data.start c.in-Data.len)) = rw (← c.piece_at.ensures, c.in-Data.is) at (inside a.s.now a.at) in
+    let w : Inside (length a.s.now) a.at (Some (piece_from c.in-Some.piece.start c.in-Some.piece.len)) = rw (← c.piece_at.ensures, c.in-Some.is) at (inside a.s.now a.at) in
     w.1
 
 pub returns-then-is_sound : goal.returns-then-is_sound
 returns-then-is_sound c =
     let a = c.args in
-    let p = one_piece a.s.now a.at (omega arith) (omega arith) _ _ (sym c.piece_at.ensures ∙ c.in-Data.is) (sym c.is_continued_at.ensures ∙ c.if-not-is_continued_at.true) in
-    sym (ap pass_of p ∙ rw c.low5.ensures at (c.is_sound.ensures c.if-is_sound.true a.at (c.in-Data.start + c.in-Data.len)))
+    let p = one_piece a.s.now a.at (omega arith) (omega arith) _ _ (sym c.piece_at.ensures ∙ c.in-Some.is) (sym c.is_continued_at.ensures ∙ c.if-not-is_continued_at.true) in
+    sym (ap pass_of p ∙ rw c.low5.ensures at (c.is_sound.ensures c.if-is_sound.true a.at (c.in-Some.piece.start + c.in-Some.piece.len)))
+
+pub returns-in_err-read_token : goal.returns-in_err-read_token
+unfolding pass_of
+returns-in_err-read_token c =
+    let p = err_from_is_err_and c.from_residual.result c.from_residual.ensures.1 in
+    rw (p.1, p.2) (ap pass_of (sym c.in_err-read_token.was ∙ c.read_token.ensures))
 
 pub returns : goal.returns
-returns c = c.pass_of.ensures ∙ ap pass_of c.read_token.ensures
+returns c = c.next_place.ensures ∙ ap pass_of (sym c.in_ok-read_token.was ∙ c.read_token.ensures)

@@ -1,4 +1,4 @@
-use Rattle.passing.proofs.Knowing.{ends_there, past_number, past_operator, sequence_shown, shown_cut}
+use Rattle.passing.proofs.Knowing.{ends_there, past_number, past_operator, sequence_shown}
 use Rattle.passing.proofs.known.past.Goals as goal
 
 pub extent-requires : goal.extent-requires
@@ -13,6 +13,3 @@ returns-in-Operator c = past_operator _ _ _ c.form.ensures _ _ c.in-Operator.is
 pub returns-in-Sequence : goal.returns-in-Sequence
 returns-in-Sequence c =
     ends_there _ _ (sequence_shown _ _ _ c.in-Sequence.is c.form.ensures).1 c.requires _ c.extent.ensures
-
-pub returns-in-Cut : goal.returns-in-Cut
-returns-in-Cut c = absurd (shown_cut _ _ _ c.form.ensures c.in-Cut.is c.requires)
