@@ -1,6 +1,7 @@
 -- What `read_back` answers and leaves, by its tests. Assumes nothing.
 use Rattle.std.specs.Prelude.{Ok, Err}
 use Rattle.tokens.specs.Refusal.{refusal_at}
+use Rattle.filling.specs.declared.Survey.{Survey}
 use Rattle.filling.specs.Filling.{survey}
 use mathlib.Core.Path.{◌≡◌, refl, ap, ◌∙◌}
 use mathlib.Core.Bool.{true, false}
@@ -13,6 +14,7 @@ use borrow.Author.Tests.{le-leb, lt-leb}
 use Rattle.numbers.proofs.Cond.{no_left, no_right}
 use Rattle.table.proofs.Stores.{front}
 use Rattle.tokens.specs.declared.Refusal.{Refusal}
+use Rattle.tokens.specs.declared.Refused.{Refused}
 use Rattle.tokens.specs.declared.Refusal.TheVariants.{BadHeader, TooLong, TableTooShort}
 use Rattle.tokens.specs.Format.{header, starts}
 use Rattle.items.specs.Tokens.{Token}
@@ -23,14 +25,16 @@ use Rattle.lists.proofs.SameTables.{list_length}
 
 -- ---- the survey's answer
 
-broken_is : (G : Got) (refusal : Refusal) (place : ℕ) → Err (refusal_at refusal place) ≡ survey_of G → G ≡ refused refusal place
+broken_is : (G : Got) (w : Refused) → Err w ≡ survey_of G → G ≡ refused w.refusal w.place
 unfolding survey_of
-broken_is (got ts) refusal place e = absurd (let z : ◌≡◌ {A = ℕ} 0 1 = cc in omega arith)
-broken_is (refused w q) refusal place e = let a : w ≡ refusal = cc in let b : q ≡ place = cc in rw (a, b)
+broken_is (got ts) w e = absurd cc
+broken_is (refused r p) w e = let f : w ≡ refusal_at r p = cc in rw f
 
 sound_is : (G : Got) (c x : ℕ) → Ok (survey c x) ≡ survey_of G → (ts : List Token) × (G ≡ got ts) × (c ≡ length ts) × (x ≡ length (texts_of ts))
 unfolding survey_of
-sound_is (got ts) c x e = (ts, refl, cc, cc)
+sound_is (got ts) c x e =
+    let f : survey c x ≡ survey (length ts) (length (texts_of ts)) = cc in
+    (ts, refl, ap (λ (v : Survey). v.count) f, ap (λ (v : Survey). v.texts) f)
 sound_is (refused w q) c x e = absurd (let z : ◌≡◌ {A = ℕ} 0 1 = cc in omega arith)
 
 -- ---- the answer
@@ -58,8 +62,8 @@ module _ (s list text : List ℕ) where
   unfolding read_list
   goes_on h f = rw (le-leb (length s) 16777215 h, f)
 
-  pub end_broken : length s ≤ 16777215 → starts header s ≡ true → {refusal : Refusal} {place : ℕ} → Err (refusal_at refusal place) ≡ survey_of (tokens_in s) → ReadsBack s list list text text (Err (refusal_at refusal place))
-  end_broken h f {refusal} {place} e = unread refusal place (goes_on h f ∙ broken_is (tokens_in s) refusal place e)
+  pub end_broken : length s ≤ 16777215 → starts header s ≡ true → {w : Refused} → Err w ≡ survey_of (tokens_in s) → ReadsBack s list list text text (Err w)
+  end_broken h f {w} e = unread w.refusal w.place (goes_on h f ∙ broken_is (tokens_in s) w e)
 
   module _ {c x : ℕ} (S : Sounds s c x) where
     ts : List Token

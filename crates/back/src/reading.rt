@@ -3,72 +3,54 @@ ghost use Rattle.std.specs.Prelude.{◌≡◌};
 ghost use Rattle.lists.specs.Promise.{ReadsBack};
 ghost use Rattle.filling.specs.Filling.{tokens_in, step_of, survey_of};
 
-use lists::{Step, Survey};
+use filling::{Step, Survey, fill_tables};
+use reader::reading::read_token;
+use tokens::{Outcome, Read, Refusal, Refused};
 
-fn go(adds: usize, text: usize, next: usize) -> Step
-    ensures { result ≡ Step.Go adds text next }
+// What the token does to the counts.
+fn step_of(token: Read) -> Step
+    ensures { Ok result ≡ step_of (Ok token) }
 {
-    Step::Go { adds, text, next }
-}
-
-fn step_of(t: tokens::Read) -> Step
-    ensures { result ≡ step_of t }
-{
-    match t {
-        tokens::Read::Number { value: _, next } => go(1, 0, next),
-        tokens::Read::Identifier { len, next } => go(1, len, next),
-        tokens::Read::String { count, next } => go(1, count, next),
-        tokens::Read::Operator { number: _, next } => go(1, 0, next),
-        tokens::Read::Comment { next } => go(0, 0, next),
-        tokens::Read::Unread { refusal, place } => Step::Stop { refusal, place },
+    match token {
+        Read::Number { next, .. } => Step::new(1, 0, next),
+        Read::Identifier { len, next } => Step::new(1, len, next),
+        Read::String { count, next } => Step::new(1, count, next),
+        Read::Operator { next, .. } => Step::new(1, 0, next),
+        Read::Comment { next } => Step::new(0, 0, next),
     }
 }
 
 // Reads all tokens, and counts them and their texts.
-fn survey_of(s: &[u8]) -> Survey
+fn survey_of(s: &[u8]) -> Result<Survey, Refused>
     ensures { result ≡ survey_of (tokens_in s.now) }
 {
     let mut at: usize = 21;
     let mut count: usize = 0;
     let mut texts: usize = 0;
     while at < s.len() {
-        match step_of(reader::reading::read_token(s, at)) {
-            Step::Stop { refusal, place } => {
-                return Survey::Broken { refusal, place };
-            }
-            Step::Go { adds, text, next } => {
-                count += adds;
-                texts += text;
-                at = next;
-            }
-        }
+        let token = read_token(s, at)?;
+        let step = step_of(token);
+        count += step.adds;
+        texts += step.text;
+        at = step.next;
     }
-    Survey::Sound { count, texts }
+    Ok(Survey { count, texts })
 }
 
 // Reads a written list back into a token table and a text table, and answers the number of tokens.
-pub fn read_back(s: &[u8], list: &mut [u8], text: &mut [u8]) -> tokens::Outcome
+pub fn read_back(s: &[u8], list: &mut [u8], text: &mut [u8]) -> Outcome
     ensures { ReadsBack s.now list.old list.new text.old text.new result }
 {
     if tokens::header::LONGEST < s.len() {
-        return tokens::refusals::refused(tokens::Refusal::TooLong, 0);
+        return Err(Refusal::TooLong.met_at(0));
     }
     if !tokens::header::begins(s) {
-        return tokens::refusals::refused(tokens::Refusal::BadHeader, 0);
+        return Err(Refusal::BadHeader.met_at(0));
     }
-    match survey_of(s) {
-        Survey::Broken { refusal, place } => {
-            return tokens::refusals::refused(refusal, place);
-        }
-        Survey::Sound { count, texts } => {
-            if list.len() / 16 < count {
-                return tokens::refusals::refused(tokens::Refusal::TableTooShort, 0);
-            }
-            if text.len() < texts {
-                return tokens::refusals::refused(tokens::Refusal::TableTooShort, 0);
-            }
-            filling::fill_tables(s, list, text);
-            return tokens::Outcome::Done { value: count };
-        }
+    let survey = survey_of(s)?;
+    if list.len() / 16 < survey.count || text.len() < survey.texts {
+        return Err(Refusal::TableTooShort.met_at(0));
     }
+    fill_tables(s, list, text);
+    Ok(survey.count)
 }

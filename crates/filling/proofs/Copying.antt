@@ -1,12 +1,15 @@
 -- The text of an identifier in lower case, and of a string as it is, byte by byte. Assumes nothing.
-use mathlib.Core.Path.{◌≡◌, refl, ap}
+use mathlib.Core.Path.{◌≡◌, refl, sym, ap}
 use mathlib.Core.Bool.{Bool, true, false}
 use mathlib.Core.List.{List, [], ◌∷◌, ◌++◌}
 use Prim.Native.Nat.{ℕ, suc, ◌<◌, ◌≤◌}
 use lib.ListN.{length, get_or, set}
 use lib.Seq.{slice, slice-cons, sets}
 use Rattle.tokens.specs.Text.{lower_of, lowered}
-use Rattle.tokens.proofs.Copying.{Shows}
+use Rattle.std.specs.Prelude.{Option, Some, None, IsSome}
+use Rattle.tokens.specs.declared.Piece.{Piece}
+use Rattle.tokens.specs.Joined.{piece_at, joined_at, FitsText}
+use Rattle.tokens.proofs.Copying.{Shows, not_missing}
 use Rattle.filling.specs.Filling.{shown}
 
 pub shown_length : (lower : Bool) (d : List ℕ) → length (shown lower d) ≡ length d
@@ -34,3 +37,8 @@ shown_none false = refl
 
 pub shows : (lower : Bool) → Shows (shown lower)
 shows lower = record { none = shown_none lower; all = shown_append lower; each = shown_length lower }
+
+-- the first piece of a text that fits is there
+pub there : (s : List ℕ) (at n o : ℕ) → FitsText n o (joined_at s at) → {r : Option Piece} → r ≡ piece_at s at → IsSome r
+there s at n o f {r = Some p} e = refl
+there s at n o f {r = None} e = absurd (not_missing s at n o f (sym e))

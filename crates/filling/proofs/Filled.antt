@@ -1,5 +1,5 @@
 -- The loop that fills the two tables, a token at a turn. In order: the tables only grow; a turn; the end. Assumes nothing.
-use Rattle.std.specs.Prelude.{Result, Ok, Err}
+use Rattle.std.specs.Prelude.{Result, Ok, Err, IsOk}
 use Rattle.tokens.specs.Refusal.{refusal_at}
 use Rattle.tokens.specs.declared.Refused.{Refused}
 use mathlib.Core.Path.{◌≡◌, refl, sym, subst, ◌∙◌}
@@ -18,7 +18,7 @@ use Rattle.tokens.specs.Token.{token_at}
 use Rattle.points.specs.Point.{next_of}
 use Rattle.numbers.proofs.Cond.{either}
 use Rattle.tokens.proofs.Told.{Told}
-use Rattle.lists.specs.declared.Place.{Place}
+use Rattle.filling.specs.declared.Place.{Place}
 use Rattle.items.specs.Tokens.{Token}
 use Rattle.lists.specs.Reading.{Got, got, refused, on_read, read_from}
 use Rattle.lists.specs.Promise.{texts_of, list_of}
@@ -52,6 +52,10 @@ by_whole (Ok (String count next)) f g = f tt
 by_whole (Ok (Operator n next)) f g = f tt
 by_whole (Ok (Comment next)) f g = f tt
 by_whole (Err w) f g = g w.refusal w.place refl
+
+whole_read : (t : Result Read Refused) → Whole t → IsOk t
+whole_read (Ok t) w = refl
+whole_read (Err w) v = absurd v
 
 on_above : (s : List ℕ) (at : ℕ) (ts : List Token) (t : Result Read Refused) (more : ℕ → List Token → Got) → ((n : ℕ) (us : List Token) → Above us (more n us)) → Above ts (on_read s at ts t more)
 unfolding on_read
@@ -94,6 +98,10 @@ module _ {G : Got} {s list₀ list text₀ text : List ℕ} {k at p o : ℕ} {ts
     (small : length s ≤ 16777215) (fits : Holds G (length list₀) (length text₀)) (h : at < length s) {t : Result Read Refused} (e : t ≡ token_at s at) where
   t_whole : Whole t
   t_whole = by_whole t (λ w. w) (λ refusal place f. absurd (subst (λ (K : Got). Holds K (length list₀) (length text₀)) (read_stop G k s at ts F.room F.rest h refusal place (sym e ∙ f)) fits))
+
+  -- a token was read
+  pub filled_read : IsOk t
+  filled_read = whole_read t t_whole
 
   t_rest : read_from (k - 1) s (next_of at t) (ts ++ added s at t) ≡ G
   t_rest = rw e (read_went G k s at ts F.room F.rest h (rw (← e) t_whole))

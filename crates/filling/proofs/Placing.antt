@@ -108,9 +108,6 @@ module _ {s : List ℕ} {at : ℕ} {t : Result Read Refused} {p o : ℕ} {list t
   unfolding added list_of texts_of
   comment_put e = record { to = rw e; list_place = rw e (omega arith); text_place = rw e (omega arith); list_is = rw e; text_is = rw e }
 
-  pub no_refusal : {refusal : Refusal} {place : ℕ} → t ≡ Err (refusal_at refusal place) → ⊥
-  no_refusal e = subst Whole e R.is_whole
-
   module _ {lower : Bool} {kind len next : ℕ} (T : IsText s at t lower kind len next) where
     pub text_end : o + len ≤ length text
     text_end = omega (arith, (one_room _ T.adds).1, text_length lower T.told)

@@ -18,7 +18,7 @@ use Rattle.tokens.specs.Joined.{joined_at}
 use Rattle.tokens.specs.Token.{token_at}
 use Rattle.points.specs.Point.{next_of}
 use Rattle.tokens.proofs.Told.{Told, Text}
-use Rattle.lists.specs.declared.Step.{Step}
+use Rattle.filling.specs.declared.Step.{Step}
 use Rattle.items.specs.Tokens.{Token}
 use Rattle.lists.specs.Reading.{Got, got, refused, on_read, read_from}
 use Rattle.tokens.specs.Joined.{data_of}
@@ -129,9 +129,9 @@ module _ {G : Got} {s : List ℕ} {k at c x : ℕ} {ts : List Token} (v : Survey
   unfolding survey_of
   survey_end h = rw (read_ended G k s at ts v.room v.rest h, v.count, v.texts)
 
-  pub survey_stop : at < length s → {refusal : Refusal} {place : ℕ} → Steps s at (token_at s at) (Err (refusal_at refusal place)) → Err (refusal_at refusal place) ≡ survey_of G
+  pub survey_stop : at < length s → {w : Refused} → token_at s at ≡ Err w → Err w ≡ survey_of G
   unfolding survey_of
-  survey_stop h f = rw (read_stop G k s at ts v.room v.rest h _ _ f)
+  survey_stop h {w} f = rw (read_stop G k s at ts v.room v.rest h w.refusal w.place f)
 
   pub survey_next : at < length s → {a m n : ℕ} → Goes s at (token_at s at) a m n → Surveyed G s (k - 1) n (c + a) (x + m) (ts ++ added s at (token_at s at))
   survey_next h g =

@@ -3,8 +3,6 @@
 use Rattle.std.specs.Prelude.{Result, Ok, Err}
 use Rattle.tokens.specs.Refusal.{refusal_at}
 use Rattle.tokens.specs.declared.Refused.{Refused}
-use Rattle.filling.specs.Filling.{step}
-use Rattle.filling.specs.Filling.{survey}
 use Rattle.std.specs.Prelude.{ℕ, ◌+◌, ◌<◌, ◌≤◌, ◌≡◌, Bool, true, false, List, [], ◌∷◌, length}
 use Rattle.std.proofs.lemmas.List.Edits.{sets}
 use Rattle.tokens.specs.declared.Read.{Read}
@@ -13,9 +11,9 @@ use Rattle.tokens.specs.Text.{lowered}
 use Rattle.tokens.specs.Joined.{joined_at}
 use Rattle.tokens.specs.Token.{token_at}
 use Rattle.points.specs.Point.{next_of}
-use Rattle.lists.specs.declared.Place.{Place}
-use Rattle.lists.specs.declared.Step.{Step}
-use Rattle.lists.specs.declared.Survey.{Survey}
+use Rattle.filling.specs.declared.Place.{Place}
+use Rattle.filling.specs.declared.Step.{Step}
+use Rattle.filling.specs.declared.Survey.{Survey}
 use Rattle.items.specs.Tokens.{Token, number, identifier, string, operator}
 use Rattle.lists.specs.Reading.{Got, got, refused, read_from}
 use Rattle.tokens.specs.Joined.{data_of}
@@ -26,6 +24,12 @@ abbrev pub tokens_in : List ℕ → Got
 tokens_in s = read_from (length s) s 21 []
 
 -- ---- the survey
+
+abbrev pub step : ℕ → ℕ → ℕ → Step
+step a t n = record { adds = a; text = t; next = n }
+
+abbrev pub survey : ℕ → ℕ → Survey
+survey c t = record { count = c; texts = t }
 
 abbrev pub step_of : Result Read Refused → Result Step Refused
 step_of (Ok (Number value next)) = Ok (step 1 0 next)

@@ -9,9 +9,42 @@ ghost use Rattle.std.proofs.Common.{of_z};
 ghost use Rattle.tokens.specs.Format.{longest};
 ghost use Rattle.tokens.specs.Joined.{data_of, joined_at, continuations, FitsText};
 ghost use Rattle.lists.specs.Promise.{four_words};
-ghost use Rattle.filling.specs.Filling.{tokens_in, shown, Put, Room, Holds, tokens_got, Fills};
+ghost use Rattle.filling.specs.Filling.{step, tokens_in, shown, Put, Room, Holds, tokens_got, Fills};
 
-use lists::Place;
+use pieces::sequences::{next_piece, piece_at};
+use reader::reading::read_token;
+use tokens::Read;
+
+// What a token that was read does to the counts, and where reading goes on.
+#[derive(Clone, Copy)]
+pub struct Step {
+    pub adds: usize,
+    pub text: usize,
+    pub next: usize,
+}
+
+impl Step {
+    pub fn new(adds: usize, text: usize, next: usize) -> Step
+        ensures { result ≡ step adds text next }
+    {
+        Step { adds, text, next }
+    }
+}
+
+// How many tokens there are and how long their texts are in all.
+#[derive(Clone, Copy)]
+pub struct Survey {
+    pub count: usize,
+    pub texts: usize,
+}
+
+// Where reading stands: in the bytes, in the list, in the text table.
+#[derive(Clone, Copy)]
+pub struct Place {
+    pub at: usize,
+    pub p: usize,
+    pub o: usize,
+}
 
 // Puts a token's four words, the last of them 0.
 fn put_words(b: &mut [u8], i: usize, k: u32, v: u32, w: u32)
@@ -55,19 +88,12 @@ fn copy_from(lower: bool, s: &[u8], start: usize, text: &mut [u8], o: usize)
     let mut at = start;
     let mut q = o;
     while at < s.len() {
-        match pieces::sequences::next_piece(s, at) {
-            tokens::Piece::Missing => {
-                return;
-            }
-            tokens::Piece::Data {
-                start: from,
-                len: more,
-            } => {
-                put_part(lower, text, q, s, from, more);
-                at = from + more;
-                q += more;
-            }
-        }
+        let Some(piece) = next_piece(s, at) else {
+            return;
+        };
+        put_part(lower, text, q, s, piece.start, piece.len);
+        at = piece.start + piece.len;
+        q += piece.len;
     }
 }
 
@@ -76,16 +102,9 @@ fn copy_text(lower: bool, s: &[u8], at: usize, text: &mut [u8], o: usize)
     requires { (at < length s.now) × FitsText (length text.old) o (joined_at s.now at) }
     ensures { text.new ≡ sets text.old o (shown lower (data_of (joined_at s.now at))) }
 {
-    match pieces::sequences::piece_at(s, at) {
-        tokens::Piece::Missing => {
-            return;
-        }
-        tokens::Piece::Data { start, len } => {
-            put_part(lower, text, o, s, start, len);
-            copy_from(lower, s, start + len, text, o + len);
-            return;
-        }
-    }
+    let piece = piece_at(s, at).unwrap();
+    put_part(lower, text, o, s, piece.start, piece.len);
+    copy_from(lower, s, piece.start + piece.len, text, o + piece.len);
 }
 
 // Puts the words and the text of the identifier or string token at `at`.
@@ -123,38 +142,33 @@ fn past(next: usize, p: usize, o: usize) -> Place
 fn put_read(
     s: &[u8],
     at: usize,
-    t: tokens::Read,
+    t: Read,
     list: &mut [u8],
     p: usize,
     text: &mut [u8],
     o: usize,
 ) -> Place
-    requires { Room s.now at t p o list.old text.old }
-    ensures { Put s.now at t p o list.old list.new text.old text.new result }
+    requires { Room s.now at (Ok t) p o list.old text.old }
+    ensures { Put s.now at (Ok t) p o list.old list.new text.old text.new result }
 {
     match t {
-        tokens::Read::Number { value, next } => {
+        Read::Number { value, next } => {
             put_number(list, p, value);
-            return past(next, p, o);
+            past(next, p, o)
         }
-        tokens::Read::Identifier { len, next } => {
+        Read::Identifier { len, next } => {
             put_text(true, 2, s, at, len, list, p, text, o);
-            return past(next, p, o + len);
+            past(next, p, o + len)
         }
-        tokens::Read::String { count, next } => {
+        Read::String { count, next } => {
             put_text(false, 3, s, at, count, list, p, text, o);
-            return past(next, p, o + count);
+            past(next, p, o + count)
         }
-        tokens::Read::Operator { number, next } => {
+        Read::Operator { number, next } => {
             put_words(list, p, 4, number as u32, 0);
-            return past(next, p, o);
+            past(next, p, o)
         }
-        tokens::Read::Comment { next } => {
-            return Place { at: next, p, o };
-        }
-        tokens::Read::Unread { refusal, place } => {
-            return Place { at, p, o };
-        }
+        Read::Comment { next } => Place { at: next, p, o },
     }
 }
 
@@ -167,7 +181,8 @@ pub fn fill_tables(s: &[u8], list: &mut [u8], text: &mut [u8])
     let mut p: usize = 0;
     let mut o: usize = 0;
     while at < s.len() {
-        let g = put_read(s, at, reader::reading::read_token(s, at), list, p, text, o);
+        let token = read_token(s, at).unwrap();
+        let g = put_read(s, at, token, list, p, text, o);
         at = g.at;
         p = g.p;
         o = g.o;

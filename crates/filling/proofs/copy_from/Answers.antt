@@ -12,10 +12,10 @@ use Rattle.tokens.proofs.Copying.{as_found, none_left, copied_end, piece_fits, c
 use Rattle.filling.specs.Filling.{shown}
 use Rattle.filling.proofs.Copying.{shows}
 use Rattle.filling.proofs.copy_from.Goals as goal
-use Rattle.filling.proofs.copy_from.Goals.{In-Data}
+use Rattle.filling.proofs.copy_from.Goals.{In-Some}
 
-here : (c : In-Data) → continuing c.args.s.now c.loop-at.at ≡ Some (piece_from c.in-Data.from c.in-Data.more)
-here c = sym c.next_piece.ensures ∙ c.in-Data.is
+here : (c : In-Some) → continuing c.args.s.now c.loop-at.at ≡ Some (piece_from c.in-Some.piece.start c.in-Some.piece.len)
+here c = sym c.next_piece.ensures ∙ c.in-Some.is
 
 pub loop-at-init : goal.loop-at-init
 loop-at-init c =
@@ -24,31 +24,31 @@ loop-at-init c =
 pub next_piece-requires : goal.next_piece-requires
 next_piece-requires c = omega arith
 
-pub shape_of-text-in-Missing : goal.shape_of-text-in-Missing
-shape_of-text-in-Missing c = c.loop-at.invariant.2.same
+pub shape_of-text-in_default : goal.shape_of-text-in_default
+shape_of-text-in_default c = c.loop-at.invariant.2.same
 
-pub returns-in-Missing : goal.returns-in-Missing
-returns-in-Missing c = copied_end (shows _) c.loop-at.invariant.2 c.requires (sym c.next_piece.ensures ∙ c.in-Missing.is)
+pub returns-in_default : goal.returns-in_default
+returns-in_default c = copied_end (shows _) c.loop-at.invariant.2 c.requires (sym c.next_piece.ensures ∙ c.in_default.is)
 
 pub put_part-requires : goal.put_part-requires
 put_part-requires c =
-    let w = piece_fits (shows _) c.loop-at.invariant.2 c.requires (here (goal.at.put_part-requires c).In-Data) in (omega (arith, w.2), w.1)
+    let w = piece_fits (shows _) c.loop-at.invariant.2 c.requires (here (goal.at.put_part-requires c).In-Some) in (omega (arith, w.2), w.1)
 
 pub overflow_add-at : goal.overflow_add-at
 overflow_add-at c =
-    omega (arith, (piece_fits (shows _) c.loop-at.invariant.2 c.requires (here (goal.at.overflow_add-at c).In-Data)).1)
+    omega (arith, (piece_fits (shows _) c.loop-at.invariant.2 c.requires (here (goal.at.overflow_add-at c).In-Some)).1)
 
 pub overflow_add-q : goal.overflow_add-q
 overflow_add-q c =
-    omega (arith, (piece_fits (shows _) c.loop-at.invariant.2 c.requires (here (goal.at.overflow_add-q c).In-Data)).2, c.loop-at.invariant.2.same)
+    omega (arith, (piece_fits (shows _) c.loop-at.invariant.2 c.requires (here (goal.at.overflow_add-q c).In-Some)).2, c.loop-at.invariant.2.same)
 
 pub loop-at-smaller : goal.loop-at-smaller
 loop-at-smaller c =
-    let w = piece_fits (shows _) c.loop-at.invariant.2 c.requires (here (goal.at.loop-at-smaller c).In-Data) in omega (arith, w.0, w.1)
+    let w = piece_fits (shows _) c.loop-at.invariant.2 c.requires (here (goal.at.loop-at-smaller c).In-Some) in omega (arith, w.0, w.1)
 
 pub loop-at-preserved : goal.loop-at-preserved
 loop-at-preserved c =
-    let i = c.loop-at.invariant in let f : ℕ = c.in-Data.from in (i.0 - 1, i.1 ++ slice f (f + c.in-Data.more) c.args.s.now, copied_next (shows _) i.2 c.requires (here (goal.at.loop-at-preserved c).In-Data) c.put_part.auto.text c.put_part.ensures)
+    let i = c.loop-at.invariant in let f : ℕ = c.in-Some.piece.start in (i.0 - 1, i.1 ++ slice f (f + c.in-Some.piece.len) c.args.s.now, copied_next (shows _) i.2 c.requires (here (goal.at.loop-at-preserved c).In-Some) c.put_part.auto.text c.put_part.ensures)
 
 pub shape_of-text : goal.shape_of-text
 shape_of-text c = c.loop-at.invariant.2.same

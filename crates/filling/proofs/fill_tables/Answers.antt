@@ -1,5 +1,6 @@
 -- `fill_tables` meets its contract: what is stored and what is left from `at` on are the whole list. Assumes nothing.
-use mathlib.Core.Path.{refl}
+use Rattle.std.specs.Prelude.{Ok}
+use mathlib.Core.Path.{refl, sym, ◌∙◌}
 use mathlib.Core.List.{[], ◌++◌}
 use Prim.Native.Nat.{◌-◌, ◌<◌}
 use native.Mathlib.Omega.{arith}
@@ -7,16 +8,16 @@ use lib.ListN.{length}
 use Rattle.tokens.proofs.Theorems.{token_says}
 use Rattle.lists.specs.Promise.{texts_of, list_of}
 use Rattle.filling.specs.Filling.{tokens_in, added}
-use Rattle.filling.proofs.Filled.{Filled, filled_room, filled_next, filled_end}
+use Rattle.filling.proofs.Filled.{Filled, filled_read, filled_room, filled_next, filled_end}
 use Rattle.filling.proofs.fill_tables.Goals as goal
 use Rattle.filling.proofs.fill_tables.Goals.{After-put_read-g}
 
 turned : (c : After-put_read-g) →
     let a = c.args in let o = c.loop-at in let i = o.invariant in let r = c.put_read-g.result in
-    Filled (tokens_in a.s.now) a.s.now a.list.now c.put_read-g.new.list a.text.now c.put_read-g.new.text (i.0 - 1) r.at r.p r.o (i.1 ++ added a.s.now o.at c.read_token.result) × (o.at < r.at)
+    Filled (tokens_in a.s.now) a.s.now a.list.now c.put_read-g.new.list a.text.now c.put_read-g.new.text (i.0 - 1) r.at r.p r.o (i.1 ++ added a.s.now o.at (Ok c.unwrap-token.result)) × (o.at < r.at)
 turned c =
     let told = token_says c.args.s.now c.loop-at.at (λ i. omega (arith, c.type_inv.s i)) (omega arith) in
-    filled_next c.loop-at.invariant.2 c.requires.0 c.requires.1 (omega arith) c.read_token.ensures told c.put_read-g.ensures c.put_read-g.auto.list c.put_read-g.auto.text
+    filled_next c.loop-at.invariant.2 c.requires.0 c.requires.1 (omega arith) (sym c.unwrap-token.ensures ∙ c.read_token.ensures) told c.put_read-g.ensures c.put_read-g.auto.list c.put_read-g.auto.text
 
 pub loop-at-init : goal.loop-at-init
 unfolding list_of texts_of
@@ -26,15 +27,18 @@ loop-at-init c =
 pub read_token-requires : goal.read_token-requires
 read_token-requires c = tt
 
+pub unwrap-token-requires : goal.unwrap-token-requires
+unwrap-token-requires c = filled_read c.loop-at.invariant.2 c.requires.0 c.requires.1 (omega arith) c.read_token.ensures
+
 pub put_read-g-requires : goal.put_read-g-requires
-put_read-g-requires c = filled_room c.loop-at.invariant.2 c.requires.0 c.requires.1 (omega arith) c.read_token.ensures
+put_read-g-requires c = filled_room c.loop-at.invariant.2 c.requires.0 c.requires.1 (omega arith) (sym c.unwrap-token.ensures ∙ c.read_token.ensures)
 
 pub loop-at-smaller : goal.loop-at-smaller
 loop-at-smaller c = omega (arith, (turned (goal.at.loop-at-smaller c).After-put_read-g).1)
 
 pub loop-at-preserved : goal.loop-at-preserved
 loop-at-preserved c =
-    let o = c.loop-at in (o.invariant.0 - 1, o.invariant.1 ++ added c.args.s.now o.at c.read_token.result, (turned (goal.at.loop-at-preserved c).After-put_read-g).0)
+    let o = c.loop-at in (o.invariant.0 - 1, o.invariant.1 ++ added c.args.s.now o.at (Ok c.unwrap-token.result), (turned (goal.at.loop-at-preserved c).After-put_read-g).0)
 
 pub shape_of-list : goal.shape_of-list
 shape_of-list c = c.loop-at.invariant.2.list_same

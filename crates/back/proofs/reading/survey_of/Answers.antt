@@ -1,8 +1,9 @@
 -- `reading::survey_of` meets its contract: what is counted and what is left from `at` on are the whole list. Assumes nothing.
-use Rattle.std.specs.Prelude.{Result}
+use Rattle.std.specs.Prelude.{Result, Ok}
+use Rattle.std.proofs.lemmas.Result.{err_from_is_err_and}
 use Rattle.tokens.specs.declared.Refused.{Refused}
 use Rattle.tokens.specs.declared.Read.{Read}
-use Rattle.lists.specs.declared.Step.{Step}
+use Rattle.filling.specs.declared.Step.{Step}
 use lib.ListN.{get_or}
 use mathlib.Core.Path.{◌≡◌, refl, sym, ap, subst, ◌∙◌}
 use mathlib.Core.List.{List, [], ◌++◌}
@@ -15,13 +16,13 @@ use Rattle.lists.specs.Promise.{texts_of}
 use Rattle.filling.specs.Filling.{step_of, added}
 use Rattle.filling.proofs.Surveying.{Steps, steps, Goes, survey_end, survey_stop, survey_next}
 use Rattle.back.proofs.reading.survey_of.Goals as goal
-use Rattle.back.proofs.reading.survey_of.Goals.{In-Go}
+use Rattle.back.proofs.reading.survey_of.Goals.{After-step_of-step}
 
-stepped : (s : List ℕ) (at : ℕ) (t : Result Read Refused) (r : Result Step Refused) → ((i : ℕ) → get_or s i 0 < 256) → at ≤ length s → t ≡ token_at s at → r ≡ step_of t → Steps s at (token_at s at) r
-stepped s at t r b h e f = subst (Steps s at (token_at s at)) (sym (f ∙ ap step_of e)) (steps s at (token_at s at) (token_says s at b h))
+stepped : (s : List ℕ) (at : ℕ) (t : Read) (p : Step) → ((i : ℕ) → get_or s i 0 < 256) → at ≤ length s → Ok t ≡ token_at s at → Ok p ≡ step_of (Ok t) → Goes s at (token_at s at) p.adds p.text p.next
+stepped s at t p b h e f = subst (Steps s at (token_at s at)) (sym (f ∙ ap step_of e)) (steps s at (token_at s at) (token_says s at b h))
 
-gone : (c : In-Go) → let s = c.args.s.now in let at = c.loop-at.at in Goes s at (token_at s at) c.in-Go.adds c.in-Go.text c.in-Go.next
-gone c = let s = c.args.s.now in let at = c.loop-at.at in subst (Steps s at (token_at s at)) c.in-Go.is (stepped s at _ _ (λ i. omega (arith, c.type_inv.s i)) (omega arith) c.read_token.ensures c.step_of.ensures)
+gone : (c : After-step_of-step) → let s = c.args.s.now in let at = c.loop-at.at in let p = c.step_of-step.result in Goes s at (token_at s at) p.adds p.text p.next
+gone c = let s = c.args.s.now in let at = c.loop-at.at in stepped s at _ _ (λ i. omega (arith, c.type_inv.s i)) (omega arith) (sym c.in_ok-token.was ∙ c.read_token.ensures) c.step_of-step.ensures
 
 pub loop-at-init : goal.loop-at-init
 unfolding texts_of
@@ -31,26 +32,23 @@ loop-at-init c =
 pub read_token-requires : goal.read_token-requires
 read_token-requires c = tt
 
-pub step_of-requires : goal.step_of-requires
-step_of-requires c = tt
-
-pub returns-in-Stop : goal.returns-in-Stop
-returns-in-Stop c =
-    let s = c.args.s.now in let at = c.loop-at.at in survey_stop c.loop-at.invariant.2 (omega arith) (subst (Steps s at (token_at s at)) c.in-Stop.is (stepped s at _ _ (λ i. omega (arith, c.type_inv.s i)) (omega arith) c.read_token.ensures c.step_of.ensures))
+pub returns-in_err-token : goal.returns-in_err-token
+returns-in_err-token c =
+    let p = err_from_is_err_and c.from_residual.result c.from_residual.ensures.1 in rw (p.1, p.2) (survey_stop c.loop-at.invariant.2 (omega arith) (sym c.read_token.ensures ∙ c.in_err-token.was))
 
 pub overflow_add-count : goal.overflow_add-count
-overflow_add-count c = omega (arith, c.loop-at.invariant.2.count_in, (gone (goal.at.overflow_add-count c).In-Go).few)
+overflow_add-count c = omega (arith, c.loop-at.invariant.2.count_in, (gone (goal.at.overflow_add-count c).After-step_of-step).few)
 
 pub overflow_add-texts : goal.overflow_add-texts
 overflow_add-texts c =
-    omega (arith, c.loop-at.invariant.2.texts_in, (gone (goal.at.overflow_add-texts c).In-Go).later, (gone (goal.at.overflow_add-texts c).In-Go).inside)
+    omega (arith, c.loop-at.invariant.2.texts_in, (gone (goal.at.overflow_add-texts c).After-step_of-step).later, (gone (goal.at.overflow_add-texts c).After-step_of-step).inside)
 
 pub loop-at-smaller : goal.loop-at-smaller
-loop-at-smaller c = omega (arith, (gone (goal.at.loop-at-smaller c).In-Go).later)
+loop-at-smaller c = omega (arith, (gone (goal.at.loop-at-smaller c).After-step_of-step).later)
 
 pub loop-at-preserved : goal.loop-at-preserved
 loop-at-preserved c =
-    let s = c.args.s.now in let o = c.loop-at in (o.invariant.0 - 1, o.invariant.1 ++ added s o.at (token_at s o.at), survey_next o.invariant.2 (omega arith) (gone (goal.at.loop-at-preserved c).In-Go))
+    let s = c.args.s.now in let o = c.loop-at in (o.invariant.0 - 1, o.invariant.1 ++ added s o.at (token_at s o.at), survey_next o.invariant.2 (omega arith) (gone (goal.at.loop-at-preserved c).After-step_of-step))
 
 pub returns : goal.returns
 returns c = survey_end c.loop-at.invariant.2 (omega arith)
