@@ -1,20 +1,15 @@
 -- The reading point (01, What the controller takes: "A reading point, the master's bytes together with the place reached, is handed
 -- from token to token"). In order: the place after a token; the token with that place. Assumes nothing.
-use Rattle.std.specs.Prelude.{Result, Ok, Err}
+use Rattle.std.specs.Prelude.{ℕ, List, Result, Ok, Err}
 use Rattle.tokens.specs.declared.Refused.{Refused}
-use Rattle.std.specs.Prelude.{ℕ, List}
 use Rattle.tokens.specs.declared.Read.{Read}
-use Rattle.tokens.specs.declared.Read.TheVariants.{Number, Identifier, String, Operator, Comment}
 use Rattle.points.specs.declared.Taken.{Taken}
 use Rattle.tokens.specs.Token.{token_at}
+use Rattle.tokens.specs.Passing.{after}
 
 -- the place after the token t that was read at `at`; where none was read, `at`
 abbrev pub next_of : ℕ → Result Read Refused → ℕ
-next_of at (Ok (Number value next)) = next
-next_of at (Ok (Identifier len next)) = next
-next_of at (Ok (String count next)) = next
-next_of at (Ok (Operator n next)) = next
-next_of at (Ok (Comment next)) = next
+next_of at (Ok token) = after token
 next_of at (Err w) = at
 
 -- the token at `at`, and the place after it

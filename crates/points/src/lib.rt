@@ -7,7 +7,7 @@ ghost use Rattle.tokens.specs.Token.{token_at};
 ghost use Rattle.points.specs.Point.{next_of, taken_at};
 
 use reader::reading::read_token;
-use tokens::Read;
+use tokens::{Read, Refused};
 
 #[derive(Clone, Copy)]
 pub struct Reader<'a> {
@@ -18,85 +18,60 @@ pub struct Reader<'a> {
 // A token, and the place after it.
 #[derive(Clone, Copy)]
 pub struct Taken {
-    pub token: Read,
+    pub token: Result<Read, Refused>,
     pub next: usize,
 }
 
 // The place after the token t, which was read at `at`.
-fn next_of(at: usize, t: Read) -> usize
+fn next_of(at: usize, t: Result<Read, Refused>) -> usize
     ensures { result ≡ next_of at t }
 {
     match t {
-        Read::Number { value: _, next } => {
-            return next;
-        }
-        Read::Identifier { len: _, next } => {
-            return next;
-        }
-        Read::String { count: _, next } => {
-            return next;
-        }
-        Read::Operator { number: _, next } => {
-            return next;
-        }
-        Read::Comment { next } => {
-            return next;
-        }
-        Read::Unread {
-            refusal: _,
-            place: _,
-        } => {
-            return at;
-        }
+        Ok(token) => token.next_place(),
+        Err(_) => at,
     }
 }
 
-// How many bytes stand from `at` on.
-fn left_from(s: &[u8], at: usize) -> usize
-    ensures { result ≡ length s.now - at }
-{
-    if s.len() <= at {
-        return 0;
+impl<'a> Reader<'a> {
+    // The reading point at a place of the bytes.
+    pub fn at(src: &'a [u8], at: usize) -> Reader<'a>
+        ensures { result ≡ record { src = src.entry; at = at } }
+    {
+        Reader { src, at }
     }
-    s.len() - at
-}
 
-// The reading point at a place of the bytes.
-pub fn point_at<'a>(src: &'a [u8], at: usize) -> Reader<'a>
-    ensures { result ≡ record { src = src.entry; at = at } }
-{
-    Reader { src, at }
-}
+    // The token at the reading point.
+    pub fn token(self) -> Result<Read, Refused>
+        ensures { result ≡ token_at self.entry.src.now self.entry.at }
+    {
+        read_token(self.src, self.at)
+    }
 
-// The token at the reading point.
-pub fn token<'a>(r: Reader<'a>) -> Read
-    ensures { result ≡ token_at r.entry.src.now r.entry.at }
-{
-    read_token(r.src, r.at)
-}
+    // The reading point handed on past the token t, which was read there.
+    pub fn past(self, t: Result<Read, Refused>) -> Reader<'a>
+        ensures { result ≡ record { src = self.entry.src; at = next_of self.entry.at t } }
+    {
+        Reader {
+            src: self.src,
+            at: next_of(self.at, t),
+        }
+    }
 
-// The reading point handed on past the token t, which was read there.
-pub fn past<'a>(r: Reader<'a>, t: Read) -> Reader<'a>
-    ensures { result ≡ record { src = r.entry.src; at = next_of r.entry.at t } }
-{
-    let at = next_of(r.at, t);
-    Reader { src: r.src, at }
-}
-
-// How many bytes are left.
-pub fn left<'a>(r: Reader<'a>) -> usize
-    ensures { result ≡ length r.entry.src.now - r.entry.at }
-{
-    left_from(r.src, r.at)
+    // How many bytes are left.
+    pub fn left(self) -> usize
+        ensures { result ≡ length self.entry.src.now - self.entry.at }
+    {
+        self.src.len().saturating_sub(self.at)
+    }
 }
 
 // The token at a place, and the place that the reading point is handed on to.
 pub fn take(s: &[u8], at: usize) -> Taken
     ensures { result ≡ taken_at s.now at }
 {
-    let here = point_at(s, at);
-    let token = token(here);
-    let on = past(here, token);
+    let here = Reader::at(s, at);
+    let token = here.token();
+    let on = here.past(token);
     Taken { token, next: on.at }
 }
 
@@ -104,5 +79,5 @@ pub fn take(s: &[u8], at: usize) -> Taken
 pub fn left_at(s: &[u8], at: usize) -> usize
     ensures { result ≡ length s.now - at }
 {
-    left(point_at(s, at))
+    Reader::at(s, at).left()
 }

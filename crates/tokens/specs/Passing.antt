@@ -23,13 +23,17 @@ abbrev pub ShowsIfAny : List ℕ → ℕ → Option Form → Type 0
 ShowsIfAny s at (Some f) = Shows s at f
 ShowsIfAny s at None = token_at s at ≡ Err (refusal_at CutOff at)
 
+-- the place after a token
+abbrev pub after : Read → ℕ
+after (read.Number value next) = next
+after (read.Identifier len next) = next
+after (read.String count next) = next
+after (read.Operator n next) = next
+after (read.Comment next) = next
+
 -- a token passed over
 unfoldable pub pass_of : Result Read Refused → Result ℕ Refused
-pass_of (Ok (read.Number value next)) = Ok next
-pass_of (Ok (read.Identifier len next)) = Ok next
-pass_of (Ok (read.String count next)) = Ok next
-pass_of (Ok (read.Operator n next)) = Ok next
-pass_of (Ok (read.Comment next)) = Ok next
+pass_of (Ok token) = Ok (after token)
 pass_of (Err w) = Err w
 
 -- there is such a number

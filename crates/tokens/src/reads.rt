@@ -1,13 +1,12 @@
 // The place after a token.
 ghost use Rattle.std.specs.Prelude.{◌≡◌};
-ghost use Rattle.tokens.specs.Passing.{pass_of};
+ghost use Rattle.tokens.specs.Passing.{after};
 
 use crate::Read;
 
 impl Read {
-    #[tactic(auto, unfolding(crate::specs::Passing::pass_of))]
     pub fn next_place(self) -> usize
-        ensures { Ok result ≡ pass_of (Ok self) }
+        ensures { result ≡ after self }
     {
         match self {
             Read::Number { value: _, next } => next,

@@ -1,5 +1,5 @@
 -- `pass_sequence` meets its contract: one piece that is sound, or the token as it is read. Assumes nothing.
-use Rattle.std.specs.Prelude.{Some}
+use Rattle.std.specs.Prelude.{Ok, Some}
 use Rattle.tokens.specs.Joined.{piece_from}
 use Rattle.tokens.specs.Passing.{pass_of}
 use Rattle.tokens.proofs.OnePiece.{one_piece}
@@ -36,4 +36,5 @@ returns-in_err-read_token c =
     rw (p.1, p.2) (ap pass_of (sym c.in_err-read_token.was ∙ c.read_token.ensures))
 
 pub returns : goal.returns
-returns c = c.next_place.ensures ∙ ap pass_of (sym c.in_ok-read_token.was ∙ c.read_token.ensures)
+unfolding pass_of
+returns c = ap Ok c.next_place.ensures ∙ ap pass_of (sym c.in_ok-read_token.was ∙ c.read_token.ensures)
