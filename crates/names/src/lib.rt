@@ -13,32 +13,23 @@ fn letter(b: &[u8], at: usize, i: usize) -> u8
     if at >= b.len() {
         return 0;
     }
-    let tokens::Piece::Data { start, len } = pieces::sequences::piece_at(b, at) else {
+    let Some(first) = pieces::sequences::piece_at(b, at) else {
         return 0;
     };
-    let mut from = start;
-    let mut n = len;
+    let mut piece = first;
     let mut left = i;
-    while n <= left {
-        let next = from + n;
+    while piece.len <= left {
+        let next = piece.start + piece.len;
         if next >= b.len() {
             return 0;
         }
-        match pieces::sequences::next_piece(b, next) {
-            tokens::Piece::Missing => {
-                return 0;
-            }
-            tokens::Piece::Data {
-                start: on,
-                len: more,
-            } => {
-                left -= n;
-                from = on;
-                n = more;
-            }
-        }
+        let Some(more) = pieces::sequences::next_piece(b, next) else {
+            return 0;
+        };
+        left -= piece.len;
+        piece = more;
     }
-    b[from + left]
+    b[piece.start + left]
 }
 
 // How many bytes the data of the sequence token at `start` are, in the bytes with that origin.

@@ -17,34 +17,34 @@ pub returns-in_default : goal.returns-in_default
 returns-in_default c =
     let a = c.args in absurd (byte_there a.b.now a.at a.i c.requires (sym c.piece_at.ensures ∙ c.in_default.is))
 
-pub loop-n-init : goal.loop-n-init
-loop-n-init c =
-    let a = c.args in (length a.b.now, [], byte_first a.b.now a.at a.i c.requires (sym c.piece_at.ensures ∙ c.in-Data.is))
+pub loop-piece-init : goal.loop-piece-init
+loop-piece-init c =
+    let a = c.args in (length a.b.now, [], byte_first a.b.now a.at a.i c.requires (sym c.piece_at.ensures ∙ c.in-Some.is))
 
 pub overflow_add-next : goal.overflow_add-next
-overflow_add-next c = omega (arith, c.loop-n.invariant.2.within)
+overflow_add-next c = omega (arith, c.loop-piece.invariant.2.within)
 
 pub returns-then-next-b : goal.returns-then-next-b
 returns-then-next-b c =
-    let o = c.loop-n in absurd (byte_left o.invariant.2 c.requires (none_left c.args.b.now (o.from + o.n) (omega arith)) (omega arith))
+    let o = c.loop-piece in absurd (byte_left o.invariant.2 c.requires (none_left c.args.b.now (o.piece.start + o.piece.len) (omega arith)) (omega arith))
 
-pub returns-in-Missing : goal.returns-in-Missing
-returns-in-Missing c =
-    absurd (byte_left c.loop-n.invariant.2 c.requires (sym c.next_piece.ensures ∙ c.in-Missing.is) (omega arith))
+pub returns-in_default-next_piece : goal.returns-in_default-next_piece
+returns-in_default-next_piece c =
+    absurd (byte_left c.loop-piece.invariant.2 c.requires (sym c.next_piece.ensures ∙ c.in_default-next_piece.is) (omega arith))
 
-pub loop-n-smaller : goal.loop-n-smaller
-loop-n-smaller c =
-    let w = piece_in c.loop-n.invariant.2 c.requires (sym c.next_piece.ensures ∙ c.in-Data-next_piece.is) in omega (arith, w.0, w.1)
+pub loop-piece-smaller : goal.loop-piece-smaller
+loop-piece-smaller c =
+    let w = piece_in c.loop-piece.invariant.2 c.requires (sym c.next_piece.ensures ∙ c.in-Some-next_piece.is) in omega (arith, w.0, w.1)
 
-pub loop-n-preserved : goal.loop-n-preserved
-loop-n-preserved c =
-    let o = c.loop-n in (o.invariant.0 - 1, o.invariant.1 ++ slice o.from (o.from + o.n) c.args.b.now, byte_on o.invariant.2 c.requires (sym c.next_piece.ensures ∙ c.in-Data-next_piece.is) (omega arith))
+pub loop-piece-preserved : goal.loop-piece-preserved
+loop-piece-preserved c =
+    let o = c.loop-piece in (o.invariant.0 - 1, o.invariant.1 ++ slice o.piece.start (o.piece.start + o.piece.len) c.args.b.now, byte_on o.invariant.2 c.requires (sym c.next_piece.ensures ∙ c.in-Some-next_piece.is) (omega arith))
 
 pub overflow_add-result : goal.overflow_add-result
-overflow_add-result c = omega (arith, c.loop-n.invariant.2.within)
+overflow_add-result c = omega (arith, c.loop-piece.invariant.2.within)
 
-pub bounds-b-from : goal.bounds-b-from
-bounds-b-from c = omega (arith, c.loop-n.invariant.2.within)
+pub bounds-b-piece : goal.bounds-b-piece
+bounds-b-piece c = omega (arith, c.loop-piece.invariant.2.within)
 
 pub returns : goal.returns
-returns c = byte_here c.loop-n.invariant.2 c.requires (omega arith)
+returns c = byte_here c.loop-piece.invariant.2 c.requires (omega arith)

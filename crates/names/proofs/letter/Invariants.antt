@@ -5,8 +5,8 @@ use Rattle.tokens.specs.Joined.{joined_at}
 use Rattle.names.proofs.Letters.{Reached}
 use Rattle.names.proofs.letter.Given as goal
 
-abbrev pub invariant-loop-n : goal.invariant-loop-n
-invariant-loop-n l = (k : ℕ) × (d : List ℕ) × Reached (joined_at l.b l.at) l.b l.i k l.from l.n l.left d
+abbrev pub invariant-loop-piece : goal.invariant-loop-piece
+invariant-loop-piece l = (k : ℕ) × (d : List ℕ) × Reached (joined_at l.b l.at) l.b l.i k l.piece.start l.piece.len l.left d
 
-abbrev pub decreases-loop-n : goal.decreases-loop-n
-decreases-loop-n l = length l.b - (l.from + l.n)
+abbrev pub decreases-loop-piece : goal.decreases-loop-piece
+decreases-loop-piece l = length l.b - (l.piece.start + l.piece.len)
