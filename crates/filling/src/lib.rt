@@ -46,6 +46,20 @@ pub struct Place {
     pub o: usize,
 }
 
+impl Place {
+    // The place after a token's words and `len` bytes of its text.
+    fn past(self, next: usize, len: usize) -> Place
+        requires { (self.p + 16 < 2 ^ 64) × (self.o + len < 2 ^ 64) }
+        ensures { result ≡ record { at = next; p = self.p + 16; o = self.o + len } }
+    {
+        Place {
+            at: next,
+            p: self.p + 16,
+            o: self.o + len,
+        }
+    }
+}
+
 // Puts a token's four words, the last of them 0.
 fn put_words(b: &mut [u8], i: usize, k: u32, v: u32, w: u32)
     requires { i + 16 ≤ length b.old }
@@ -107,68 +121,46 @@ fn copy_text(lower: bool, s: &[u8], at: usize, text: &mut [u8], o: usize)
     copy_from(lower, s, piece.start + piece.len, text, o + piece.len);
 }
 
-// Puts the words and the text of the identifier or string token at `at`.
+// Puts the words and the text of the identifier or string token at the place.
 fn put_text(
     lower: bool,
     kind: u32,
     s: &[u8],
-    at: usize,
     len: usize,
     list: &mut [u8],
-    p: usize,
     text: &mut [u8],
-    o: usize,
+    place: Place,
 )
-    requires { (at < length s.now) × (p + 16 ≤ length list.old) × (o < 2 ^ 32) × (len < 2 ^ 32) × FitsText (length text.old) o (joined_at s.now at) }
-    ensures { (list.new ≡ sets list.old p (four_words kind o len)) × (text.new ≡ sets text.old o (shown lower (data_of (joined_at s.now at)))) }
+    requires { (place.at < length s.now) × (place.p + 16 ≤ length list.old) × (place.o < 2 ^ 32) × (len < 2 ^ 32) × FitsText (length text.old) place.o (joined_at s.now place.at) }
+    ensures { (list.new ≡ sets list.old place.p (four_words kind place.o len)) × (text.new ≡ sets text.old place.o (shown lower (data_of (joined_at s.now place.at)))) }
 {
-    put_words(list, p, kind, o as u32, len as u32);
-    copy_text(lower, s, at, text, o);
+    put_words(list, place.p, kind, place.o as u32, len as u32);
+    copy_text(lower, s, place.at, text, place.o);
 }
 
-// The place after a token's words.
-fn past(next: usize, p: usize, o: usize) -> Place
-    requires { p + 16 < 2 ^ 64 }
-    ensures { result ≡ record { at = next; p = p + 16; o = o } }
-{
-    Place {
-        at: next,
-        p: p + 16,
-        o,
-    }
-}
-
-// Puts what the token t at `at` adds into the two tables.
-fn put_read(
-    s: &[u8],
-    at: usize,
-    t: Read,
-    list: &mut [u8],
-    p: usize,
-    text: &mut [u8],
-    o: usize,
-) -> Place
-    requires { Room s.now at (Ok t) p o list.old text.old }
-    ensures { Put s.now at (Ok t) p o list.old list.new text.old text.new result }
+// Puts what the token t at the place adds into the two tables, and answers the place after it.
+fn put_read(s: &[u8], t: Read, list: &mut [u8], text: &mut [u8], place: Place) -> Place
+    requires { Room s.now place.at (Ok t) place.p place.o list.old text.old }
+    ensures { Put s.now place.at (Ok t) place.p place.o list.old list.new text.old text.new result }
 {
     match t {
         Read::Number { value, next } => {
-            put_number(list, p, value);
-            past(next, p, o)
+            put_number(list, place.p, value);
+            place.past(next, 0)
         }
         Read::Identifier { len, next } => {
-            put_text(true, 2, s, at, len, list, p, text, o);
-            past(next, p, o + len)
+            put_text(true, 2, s, len, list, text, place);
+            place.past(next, len)
         }
         Read::String { count, next } => {
-            put_text(false, 3, s, at, count, list, p, text, o);
-            past(next, p, o + count)
+            put_text(false, 3, s, count, list, text, place);
+            place.past(next, count)
         }
         Read::Operator { number, next } => {
-            put_words(list, p, 4, number as u32, 0);
-            past(next, p, o)
+            put_words(list, place.p, 4, number as u32, 0);
+            place.past(next, 0)
         }
-        Read::Comment { next } => Place { at: next, p, o },
+        Read::Comment { next } => Place { at: next, ..place },
     }
 }
 
@@ -177,14 +169,9 @@ pub fn fill_tables(s: &[u8], list: &mut [u8], text: &mut [u8])
     requires { (length s.now ≤ longest) × Holds (tokens_in s.now) (length list.old) (length text.old) }
     ensures { Fills (tokens_got (tokens_in s.now)) list.old list.new text.old text.new }
 {
-    let mut at: usize = 21;
-    let mut p: usize = 0;
-    let mut o: usize = 0;
-    while at < s.len() {
-        let token = read_token(s, at).unwrap();
-        let g = put_read(s, at, token, list, p, text, o);
-        at = g.at;
-        p = g.p;
-        o = g.o;
+    let mut place = Place { at: 21, p: 0, o: 0 };
+    while place.at < s.len() {
+        let token = read_token(s, place.at).unwrap();
+        place = put_read(s, token, list, text, place);
     }
 }

@@ -6,8 +6,8 @@ use Rattle.filling.specs.Filling.{tokens_in}
 use Rattle.filling.proofs.Filled.{Filled}
 use Rattle.filling.proofs.fill_tables.Given as goal
 
-abbrev pub invariant-loop-at : goal.invariant-loop-at
-invariant-loop-at l = (k : ℕ) × (ts : List Token) × Filled (tokens_in l.s) l.s l.initial.list l.list l.initial.text l.text k l.at l.p l.o ts
+abbrev pub invariant-loop-place : goal.invariant-loop-place
+invariant-loop-place l = (k : ℕ) × (ts : List Token) × Filled (tokens_in l.s) l.s l.initial.list l.list l.initial.text l.text k l.place.at l.place.p l.place.o ts
 
-abbrev pub decreases-loop-at : goal.decreases-loop-at
-decreases-loop-at l = length l.s - l.at
+abbrev pub decreases-loop-place : goal.decreases-loop-place
+decreases-loop-place l = length l.s - l.place.at

@@ -7,9 +7,11 @@ use Rattle.items.proofs.is_name.Goals.{then-len-lt1-via-then-len-lt1, then-len-l
 
 pub returns-then-len-lt1 : goal.returns-then-len-lt1
 returns-then-len-lt1 c =
-    let a = c.args in sym (elim c.then-len-lt1.branch [ then-len-lt1-via-then-len-lt1 w ↦ name_none Lowered a.x.now a.start a.len c.requires w.if-len-lt1.true
+    let a = c.args in sym (elim c.then-len-lt1.branch [
+      | then-len-lt1-via-then-len-lt1 w ↦ name_none Lowered a.x.now a.start a.len c.requires w.if-len-lt1.true
       | then-len-lt1-via-else-len-lt1+then-len-gt100 w ↦ name_long Lowered a.x.now a.start a.len c.requires w.if-len-gt100.true
-      | then-len-lt1-via-else-len-lt1+else-len-gt100+then-not-is_letter w ↦ name_first Lowered a.x.now a.start a.len c.requires _ w.if-len-lt1.false w.is_letter.ensures w.if-not-is_letter.true ])
+      | then-len-lt1-via-else-len-lt1+else-len-gt100+then-not-is_letter w ↦ name_first Lowered a.x.now a.start a.len c.requires _ w.if-len-lt1.false w.is_letter.ensures w.if-not-is_letter.true
+    ])
 
 pub returns : goal.returns
 returns c =

@@ -10,5 +10,7 @@ returns-then-is_fraction c =
 
 pub returns : goal.returns
 returns c =
-    λ x. elim c.else-c-eq0.branch [ else-c-eq0-via-then-c-eq0+else-is_fraction w ↦ judged_right x _ _ _ (fraction_is c.args.a c.args.b _ _ w.size_of_word.ensures w.is_fraction.ensures) w.if-is_fraction.false
-      | else-c-eq0-via-else-c-eq0 w ↦ judged_left x _ _ (ne_eqb _ _ w.if-c-eq0.false) ]
+    λ x. elim c.else-c-eq0.branch [
+      | else-c-eq0-via-then-c-eq0+else-is_fraction w ↦ judged_right x _ _ _ (fraction_is c.args.a c.args.b _ _ w.size_of_word.ensures w.is_fraction.ensures) w.if-is_fraction.false
+      | else-c-eq0-via-else-c-eq0 w ↦ judged_left x _ _ (ne_eqb _ _ w.if-c-eq0.false)
+    ]

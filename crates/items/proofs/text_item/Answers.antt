@@ -10,9 +10,11 @@ use Rattle.items.proofs.text_item.Goals.{else-start-len-via-then-start-len+else-
 
 pub returns-then-c-ne0 : goal.returns-then-c-ne0
 returns-then-c-ne0 c =
-    let a = c.args in judged_left _ _ _ (elim c.then-c-ne0.branch [ then-c-ne0-via-then-c-ne0 w ↦ rest_bad a.x.now a.a a.b a.c w.if-c-ne0.true
+    let a = c.args in judged_left _ _ _ (elim c.then-c-ne0.branch [
+      | then-c-ne0-via-then-c-ne0 w ↦ rest_bad a.x.now a.a a.b a.c w.if-c-ne0.true
       | then-c-ne0-via-else-c-ne0+then-a-gt2147483647 w ↦ start_bad a.x.now a.a a.b a.c w.if-a-gt2147483647.true
-      | then-c-ne0-via-else-c-ne0+else-a-gt2147483647+then-b-gt2147483647 w ↦ length_bad a.x.now a.a a.b a.c w.if-b-gt2147483647.true ])
+      | then-c-ne0-via-else-c-ne0+else-a-gt2147483647+then-b-gt2147483647 w ↦ length_bad a.x.now a.a a.b a.c w.if-b-gt2147483647.true
+    ])
 
 pub returns-then-is_text : goal.returns-then-is_text
 returns-then-is_text c =
@@ -20,5 +22,7 @@ returns-then-is_text c =
 
 pub returns : goal.returns
 returns c =
-    let a = c.args in elim c.else-start-len.branch [ else-start-len-via-then-start-len+else-is_text w ↦ judged_right _ _ _ _ w.is_text.ensures w.if-is_text.false
-      | else-start-len-via-else-start-len w ↦ judged_left _ _ _ (end_bad a.x.now a.a a.b a.c w.if-start-len.false) ]
+    let a = c.args in elim c.else-start-len.branch [
+      | else-start-len-via-then-start-len+else-is_text w ↦ judged_right _ _ _ _ w.is_text.ensures w.if-is_text.false
+      | else-start-len-via-else-start-len w ↦ judged_left _ _ _ (end_bad a.x.now a.a a.b a.c w.if-start-len.false)
+    ]

@@ -1,9 +1,7 @@
 -- `reading::read_back` meets its contract, test by test. Assumes nothing.
 use Rattle.std.proofs.lemmas.Result.{err_from_is_err_and}
-use mathlib.Core.Path.{◌≡◌, sym, ◌∙◌}
-use mathlib.Core.Bool.{true}
+use mathlib.Core.Path.{sym, ◌∙◌}
 use native.Mathlib.Omega.{arith}
-use Rattle.tokens.specs.Format.{header, starts}
 use Rattle.back.proofs.Answering.{Sounds, end_long, end_header, end_broken, end_list, end_text, end_holds, end_done}
 use Rattle.back.proofs.reading.read_back.Goals as goal
 use Rattle.back.proofs.reading.read_back.Goals.{In_ok-survey, then-list-survey-via-then-list-survey, then-list-survey-via-else-list-survey+then-text-survey}
@@ -25,8 +23,10 @@ returns-in_err-survey c =
 
 pub returns-then-list-survey : goal.returns-then-list-survey
 returns-then-list-survey c =
-    let a = c.args in let k = sounds (goal.at.returns-then-list-survey c).In_ok-survey in rw c.met_at-then-list-survey.ensures (elim c.then-list-survey.branch [ then-list-survey-via-then-list-survey w ↦ end_list a.s.now a.list.now a.text.now k (omega (arith, w.if-list-survey.true))
-      | then-list-survey-via-else-list-survey+then-text-survey w ↦ end_text a.s.now a.list.now a.text.now k w.if-text-survey.true ])
+    let a = c.args in let k = sounds (goal.at.returns-then-list-survey c).In_ok-survey in rw c.met_at-then-list-survey.ensures (elim c.then-list-survey.branch [
+      | then-list-survey-via-then-list-survey w ↦ end_list a.s.now a.list.now a.text.now k (omega (arith, w.if-list-survey.true))
+      | then-list-survey-via-else-list-survey+then-text-survey w ↦ end_text a.s.now a.list.now a.text.now k w.if-text-survey.true
+    ])
 
 pub fill_tables-requires : goal.fill_tables-requires
 fill_tables-requires c =

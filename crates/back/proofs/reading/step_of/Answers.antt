@@ -1,6 +1,5 @@
 -- `reading::step_of` meets its contract, variant by variant. Assumes nothing.
 use Rattle.std.specs.Prelude.{Ok}
-use Rattle.tokens.specs.declared.Refused.{Refused}
 use mathlib.Core.Path.{sym, ap, ◌∙◌}
 use Rattle.filling.specs.Filling.{step_of}
 use Rattle.back.proofs.reading.step_of.Goals as goal

@@ -1,7 +1,6 @@
 -- `reading::survey_of` meets its contract: what is counted and what is left from `at` on are the whole list. Assumes nothing.
-use Rattle.std.specs.Prelude.{Result, Ok}
+use Rattle.std.specs.Prelude.{Ok}
 use Rattle.std.proofs.lemmas.Result.{err_from_is_err_and}
-use Rattle.tokens.specs.declared.Refused.{Refused}
 use Rattle.tokens.specs.declared.Read.{Read}
 use Rattle.filling.specs.declared.Step.{Step}
 use lib.ListN.{get_or}

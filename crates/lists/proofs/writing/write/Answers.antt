@@ -17,8 +17,10 @@ returns-in_err-len c =
 
 pub returns-then-len-gt-LONGEST : goal.returns-then-len-gt-LONGEST
 returns-then-len-gt-LONGEST c =
-    let a = c.args in let e = measured (goal.at.returns-then-len-gt-LONGEST c).In_ok-len in rw c.met_at.ensures (elim c.then-len-gt-LONGEST.branch [ then-len-gt-LONGEST-via-then-len-gt-LONGEST w ↦ writes_long a.list.now a.text.now a.out.now _ e w.if-len-gt-LONGEST.true
-      | then-len-gt-LONGEST-via-else-len-gt-LONGEST+then-out-len w ↦ writes_full a.list.now a.text.now a.out.now _ e w.if-len-gt-LONGEST.false w.if-out-len.true ])
+    let a = c.args in let e = measured (goal.at.returns-then-len-gt-LONGEST c).In_ok-len in rw c.met_at.ensures (elim c.then-len-gt-LONGEST.branch [
+      | then-len-gt-LONGEST-via-then-len-gt-LONGEST w ↦ writes_long a.list.now a.text.now a.out.now _ e w.if-len-gt-LONGEST.true
+      | then-len-gt-LONGEST-via-else-len-gt-LONGEST+then-out-len w ↦ writes_full a.list.now a.text.now a.out.now _ e w.if-len-gt-LONGEST.false w.if-out-len.true
+    ])
 
 pub put_all-requires : goal.put_all-requires
 put_all-requires c =
