@@ -3,33 +3,18 @@ ghost use Rattle.machine.specs.Promise.{Runs, Reprints};
 
 use admission::arguments;
 use skeleton::pages::PLACES;
-use tokens::Outcome;
-use tokens::refusals::refused;
+use tokens::{Outcome, Refusal};
 
 // Runs every body of a master, the preamble first, and answers the page count; a row for each.
 pub fn run(s: &[u8], allowance: i64, scratch: &mut [u8], rows: &mut [u8]) -> Outcome
     ensures { Runs s.now allowance scratch.old scratch.new rows.old rows.new result }
 {
     let mut places = [0usize; PLACES];
-    match admission::admit(
-        s,
-        allowance,
-        admission::room_to_run(scratch.len(), rows.len()),
-        &mut places,
-    ) {
-        Outcome::Done { value } => {
-            let steps = arguments::count(allowance);
-            masters::run_all(
-                s,
-                &places,
-                value,
-                steps,
-                &mut scratch[0..admission::SCRATCH],
-                rows,
-            )
-        }
-        Outcome::Refused { refusal, place } => refused(refusal, place),
-    }
+    let room = admission::room_to_run(scratch.len(), rows.len());
+    let last = admission::admit(s, allowance, room, &mut places)?;
+    let steps = arguments::count(allowance);
+    let w = &mut scratch[0..admission::SCRATCH];
+    masters::run_all(s, &places, last, steps, w, rows)
 }
 
 // Runs the preamble and one page of a master, or the preamble alone where `page` is 0, and answers `page`: its row and its sections.
@@ -45,16 +30,12 @@ pub fn reprint(
 {
     let mut places = [0usize; PLACES];
     let room = admission::room_to_reprint(scratch.len(), rows.len(), sections.len());
-    match admission::admit(s, allowance, room, &mut places) {
-        Outcome::Done { value } => {
-            if !admission::has_page(page, value) {
-                return refused(tokens::Refusal::NoSuchPage, 0);
-            }
-            let number = arguments::count(page);
-            let steps = arguments::count(allowance);
-            let w = &mut scratch[0..admission::SCRATCH];
-            masters::reprint_one(s, &places, number, steps, w, rows, sections)
-        }
-        Outcome::Refused { refusal, place } => refused(refusal, place),
+    let last = admission::admit(s, allowance, room, &mut places)?;
+    if !admission::has_page(page, last) {
+        return Err(Refusal::NoSuchPage.met_at(0));
     }
+    let number = arguments::count(page);
+    let steps = arguments::count(allowance);
+    let w = &mut scratch[0..admission::SCRATCH];
+    masters::reprint_one(s, &places, number, steps, w, rows, sections)
 }

@@ -4,7 +4,6 @@ use Rattle.std.specs.Prelude.{Ok, Err, ℕ, Bool, cond, ◌&&◌, leb, eqb, ℤ,
 use Rattle.std.proofs.Math.Option.{Option, none, some}
 use Rattle.numbers.specs.declared.Number as num
 use Rattle.numbers.specs.Fraction.{Answer}
-use Rattle.numbers.specs.declared.NoNumber.TheVariants.{TooLarge, ByZero}
 use Rattle.machine.specs.declared.Value.{Value}
 use Rattle.machine.specs.declared.Value.TheVariants.{Number, Identifier, Vector, Operator}
 use Rattle.machine.specs.declared.Effect.{Effect}
@@ -61,5 +60,4 @@ only_if b e = cond b e Fail
 -- a number that does not fit the limits, or a division by zero, is a master error
 unfoldable pub answered : Answer → Effect
 answered (Ok a) = Gives a
-answered (Err TooLarge) = Fail
-answered (Err ByZero) = Fail
+answered (Err why) = Fail

@@ -11,8 +11,7 @@ ghost use Rattle.prints.specs.Ran.{Preambled, Holds, RanAll, Shown, Reprinted};
 
 use admission::SCRATCH;
 use state::Registers;
-use tokens::Outcome;
-use tokens::refusals::refused;
+use tokens::{Outcome, Refusal};
 
 // A preamble that ran out of steps.
 const OUT_OF_STEPS: u32 = 3;
@@ -40,12 +39,12 @@ pub fn run_all(
     let q = prints::walks::preamble_of(w, s, places[0], places[1], allowance);
     if rows::outcome_of(q) == OUT_OF_STEPS {
         wipe(w);
-        return refused(tokens::Refusal::PreambleUnfinished, 0);
+        return Err(Refusal::PreambleUnfinished.met_at(0));
     }
     rows::put_row(rows, 0, q, 0);
     prints::walks::every_page(w, s, places, last, q.used, allowance, rows);
     wipe(w);
-    Outcome::Done { value: last }
+    Ok(last)
 }
 
 // The row and the sections of a result, of a run that ended in w with the registers q and began with so many cells.
@@ -98,9 +97,9 @@ pub fn reprint_one(
     let q = prints::walks::preamble_of(w, s, places[0], places[1], allowance);
     if rows::outcome_of(q) == OUT_OF_STEPS {
         wipe(w);
-        return refused(tokens::Refusal::PreambleUnfinished, 0);
+        return Err(Refusal::PreambleUnfinished.met_at(0));
     }
     print_one(s, places, page, allowance, w, q, rows, sections);
     wipe(w);
-    Outcome::Done { value: page }
+    Ok(page)
 }

@@ -6,7 +6,7 @@ ghost use Rattle.operands.specs.Operands.{card_of, Within, figure_of};
 
 use crate::{Card, Figure};
 use machine::{Effect, Value};
-use numbers::{Answer, Number};
+use numbers::{NoNumber, Number};
 
 // The bits of a negative numerator are a number above the largest Cardinal.
 fn cardinal_in(a: Number) -> Card
@@ -60,12 +60,11 @@ pub fn whether(b: bool) -> Effect
     }
 }
 
-pub fn answered(a: Answer) -> Effect
+pub fn answered(a: Result<Number, NoNumber>) -> Effect
     ensures { (result ≡ answered a) × Sized result }
 {
     match a {
-        Answer::Is(n) => Effect::Gives(n),
-        Answer::TooLarge => Effect::Fail,
-        Answer::ByZero => Effect::Fail,
+        Ok(n) => Effect::Gives(n),
+        Err(_) => Effect::Fail,
     }
 }

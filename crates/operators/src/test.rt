@@ -7,7 +7,8 @@ ghost use Rattle.machine.specs.Ops.Test.{test_arity, is_less, is_equal, type_of,
 ghost use Rattle.operands.specs.Sizes.{Sized};
 
 use machine::{Effect, Next, TestOp, Value, Work};
-use numbers::{Number, Order};
+use numbers::Number;
+use std::cmp::Ordering;
 use operands::{Card, Figure, values};
 
 pub fn arity(o: TestOp) -> usize
@@ -28,9 +29,9 @@ fn is_less(a: Number, b: Number) -> bool
     ensures { result ≡ is_less (order_of a b) }
 {
     match arithmetic::compare(a, b) {
-        Order::Less => true,
-        Order::Equal => false,
-        Order::Greater => false,
+        Ordering::Less => true,
+        Ordering::Equal => false,
+        Ordering::Greater => false,
     }
 }
 
@@ -38,9 +39,9 @@ fn is_equal(a: Number, b: Number) -> bool
     ensures { result ≡ is_equal (order_of a b) }
 {
     match arithmetic::compare(a, b) {
-        Order::Less => false,
-        Order::Equal => true,
-        Order::Greater => false,
+        Ordering::Less => false,
+        Ordering::Equal => true,
+        Ordering::Greater => false,
     }
 }
 

@@ -5,7 +5,7 @@ ghost use Rattle.operands.specs.Sizes.{Sized};
 ghost use Rattle.reckoning.specs.Reckoning.{reckoned};
 
 use machine::{ArithOp, Effect, Value};
-use numbers::{Answer, Number};
+use numbers::{NoNumber, Number};
 use operands::{Figure, values};
 
 pub fn arity(o: ArithOp) -> usize
@@ -28,7 +28,7 @@ pub fn arity(o: ArithOp) -> usize
 }
 
 // <a> <b> ADD → <c>, and so on; an operator on one number takes b: <b> NEG → <c>.
-fn reckon(o: ArithOp, a: Number, b: Number) -> Answer
+fn reckon(o: ArithOp, a: Number, b: Number) -> Result<Number, NoNumber>
     ensures { result ≡ reckoned o a b }
 {
     match o {

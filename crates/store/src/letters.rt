@@ -41,19 +41,12 @@ fn put_pieces(w: &mut [u8], k: usize, b: &[u8], start: usize)
     let mut at = start;
     let mut q = k;
     while at < b.len() {
-        match pieces::sequences::next_piece(b, at) {
-            tokens::Piece::Missing => {
-                return;
-            }
-            tokens::Piece::Data {
-                start: from,
-                len: more,
-            } => {
-                put_piece(w, q, b, from, more);
-                at = from + more;
-                q += more;
-            }
-        }
+        let Some(piece) = pieces::sequences::next_piece(b, at) else {
+            return;
+        };
+        put_piece(w, q, b, piece.start, piece.len);
+        at = piece.start + piece.len;
+        q += piece.len;
     }
 }
 
@@ -68,16 +61,11 @@ fn put_letters(w: &mut [u8], k: usize, b: &[u8], at: usize, n: usize)
     if at >= b.len() {
         return;
     }
-    match pieces::sequences::piece_at(b, at) {
-        tokens::Piece::Missing => {
-            return;
-        }
-        tokens::Piece::Data { start, len } => {
-            put_piece(w, k, b, start, len);
-            put_pieces(w, k + len, b, start + len);
-            return;
-        }
-    }
+    let Some(piece) = pieces::sequences::piece_at(b, at) else {
+        return;
+    };
+    put_piece(w, k, b, piece.start, piece.len);
+    put_pieces(w, k + piece.len, b, piece.start + piece.len);
 }
 
 // The string token at `at` of the bytes b becomes a vector.

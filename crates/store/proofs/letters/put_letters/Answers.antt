@@ -20,26 +20,26 @@ pub returns-then-at-b : goal.returns-then-at-b
 returns-then-at-b c =
     no_letters (data_of (joined_at c.args.b.now c.args.at)) (slots c.args.w.now) c.args.k (omega (arith, none_past c.args.b.now c.args.at (omega arith)))
 
-pub returns-in-Missing : goal.returns-in-Missing
-returns-in-Missing c =
-    no_letters (data_of (joined_at c.args.b.now c.args.at)) (slots c.args.w.now) c.args.k (omega (arith, none_missing c.args.b.now c.args.at (sym c.piece_at.ensures ∙ c.in-Missing.is)))
+pub returns-in_default : goal.returns-in_default
+returns-in_default c =
+    no_letters (data_of (joined_at c.args.b.now c.args.at)) (slots c.args.w.now) c.args.k (omega (arith, none_missing c.args.b.now c.args.at (sym c.piece_at.ensures ∙ c.in_default.is)))
 
 pub put_piece-requires : goal.put_piece-requires
 put_piece-requires c =
-    let w = first_fits c.args.b.now c.args.at (length (slots c.args.w.now)) c.args.k (letters_fit c.args.w.now c.args.k c.args.n (joined_at c.args.b.now c.args.at) c.requires.0 c.if-n-eq0.false c.requires.1) (sym c.piece_at.ensures ∙ c.in-Data.is) in (room_back _ _ w.0, w.1)
+    let w = first_fits c.args.b.now c.args.at (length (slots c.args.w.now)) c.args.k (letters_fit c.args.w.now c.args.k c.args.n (joined_at c.args.b.now c.args.at) c.requires.0 c.if-n-eq0.false c.requires.1) (sym c.piece_at.ensures ∙ c.in-Some.is) in (room_back _ _ w.0, w.1)
 
 pub overflow_add-k : goal.overflow_add-k
 overflow_add-k c =
-    let w = first_fits c.args.b.now c.args.at (length (slots c.args.w.now)) c.args.k (letters_fit c.args.w.now c.args.k c.args.n (joined_at c.args.b.now c.args.at) c.requires.0 c.if-n-eq0.false c.requires.1) (sym c.piece_at.ensures ∙ c.in-Data.is) in omega (arith, room_back _ _ w.0)
+    let w = first_fits c.args.b.now c.args.at (length (slots c.args.w.now)) c.args.k (letters_fit c.args.w.now c.args.k c.args.n (joined_at c.args.b.now c.args.at) c.requires.0 c.if-n-eq0.false c.requires.1) (sym c.piece_at.ensures ∙ c.in-Some.is) in omega (arith, room_back _ _ w.0)
 
-pub overflow_add-start : goal.overflow_add-start
-overflow_add-start c =
-    let w = first_fits c.args.b.now c.args.at (length (slots c.args.w.now)) c.args.k (letters_fit c.args.w.now c.args.k c.args.n (joined_at c.args.b.now c.args.at) c.requires.0 c.if-n-eq0.false c.requires.1) (sym c.piece_at.ensures ∙ c.in-Data.is) in omega (arith, w.1)
+pub overflow_add-piece : goal.overflow_add-piece
+overflow_add-piece c =
+    let w = first_fits c.args.b.now c.args.at (length (slots c.args.w.now)) c.args.k (letters_fit c.args.w.now c.args.k c.args.n (joined_at c.args.b.now c.args.at) c.requires.0 c.if-n-eq0.false c.requires.1) (sym c.piece_at.ensures ∙ c.in-Some.is) in omega (arith, w.1)
 
 pub put_pieces-requires : goal.put_pieces-requires
 put_pieces-requires c =
-    let w = first_fits c.args.b.now c.args.at (length (slots c.args.w.now)) c.args.k (letters_fit c.args.w.now c.args.k c.args.n (joined_at c.args.b.now c.args.at) c.requires.0 c.if-n-eq0.false c.requires.1) (sym c.piece_at.ensures ∙ c.in-Data.is) in subst (λ (n : ℕ). FitsText n (c.args.k + c.in-Data.len) (continuations c.args.b.now (c.in-Data.start + c.in-Data.len))) (sym (sets_long (slots c.args.w.now) _ c.args.k (letter_slots (slice c.in-Data.start (c.in-Data.start + c.in-Data.len) c.args.b.now)) c.put_piece.ensures)) w.2
+    let w = first_fits c.args.b.now c.args.at (length (slots c.args.w.now)) c.args.k (letters_fit c.args.w.now c.args.k c.args.n (joined_at c.args.b.now c.args.at) c.requires.0 c.if-n-eq0.false c.requires.1) (sym c.piece_at.ensures ∙ c.in-Some.is) in subst (λ (n : ℕ). FitsText n (c.args.k + c.in-Some.piece.len) (continuations c.args.b.now (c.in-Some.piece.start + c.in-Some.piece.len))) (sym (sets_long (slots c.args.w.now) _ c.args.k (letter_slots (slice c.in-Some.piece.start (c.in-Some.piece.start + c.in-Some.piece.len) c.args.b.now)) c.put_piece.ensures)) w.2
 
-pub returns-in-Data : goal.returns-in-Data
-returns-in-Data c =
-    text_whole c.args.b.now c.args.at (length (slots c.args.w.now)) c.args.k (letters_fit c.args.w.now c.args.k c.args.n (joined_at c.args.b.now c.args.at) c.requires.0 c.if-n-eq0.false c.requires.1) (sym c.piece_at.ensures ∙ c.in-Data.is) letter_slots letters_show (slots c.args.w.now) c.put_piece.ensures c.put_pieces.ensures
+pub returns : goal.returns
+returns c =
+    text_whole c.args.b.now c.args.at (length (slots c.args.w.now)) c.args.k (letters_fit c.args.w.now c.args.k c.args.n (joined_at c.args.b.now c.args.at) c.requires.0 c.if-n-eq0.false c.requires.1) (sym c.piece_at.ensures ∙ c.in-Some.is) letter_slots letters_show (slots c.args.w.now) c.put_piece.ensures c.put_pieces.ensures

@@ -17,29 +17,29 @@ pub loop-at-init : goal.loop-at-init
 loop-at-init c =
     let a = c.args in (refl, length a.b.now, [], record { room = omega arith; place = omega arith; same = refl; text_is = as_found letter_slots letters_show (slots a.w.now) a.k; rest = refl })
 
-pub returns-in-Missing : goal.returns-in-Missing
-returns-in-Missing c =
-    copied_end letters_show c.loop-at.invariant.3 c.requires (sym c.next_piece.ensures ∙ c.in-Missing.is)
+pub returns-in_default : goal.returns-in_default
+returns-in_default c =
+    copied_end letters_show c.loop-at.invariant.3 c.requires (sym c.next_piece.ensures ∙ c.in_default.is)
 
 pub put_piece-requires : goal.put_piece-requires
 put_piece-requires c =
-    let w = piece_fits letters_show c.loop-at.invariant.3 c.requires (sym c.next_piece.ensures ∙ c.in-Data.is) in (room_back _ _ w.2, w.1)
+    let w = piece_fits letters_show c.loop-at.invariant.3 c.requires (sym c.next_piece.ensures ∙ c.in-Some.is) in (room_back _ _ w.2, w.1)
 
 pub overflow_add-at : goal.overflow_add-at
 overflow_add-at c =
-    let w = piece_fits letters_show c.loop-at.invariant.3 c.requires (sym c.next_piece.ensures ∙ c.in-Data.is) in omega (arith, w.1)
+    let w = piece_fits letters_show c.loop-at.invariant.3 c.requires (sym c.next_piece.ensures ∙ c.in-Some.is) in omega (arith, w.1)
 
 pub overflow_add-q : goal.overflow_add-q
 overflow_add-q c =
-    let w = piece_fits letters_show c.loop-at.invariant.3 c.requires (sym c.next_piece.ensures ∙ c.in-Data.is) in omega (arith, room_back _ _ w.2)
+    let w = piece_fits letters_show c.loop-at.invariant.3 c.requires (sym c.next_piece.ensures ∙ c.in-Some.is) in omega (arith, room_back _ _ w.2)
 
 pub loop-at-smaller : goal.loop-at-smaller
 loop-at-smaller c =
-    let w = piece_fits letters_show c.loop-at.invariant.3 c.requires (sym c.next_piece.ensures ∙ c.in-Data.is) in omega (arith, w.0, w.1)
+    let w = piece_fits letters_show c.loop-at.invariant.3 c.requires (sym c.next_piece.ensures ∙ c.in-Some.is) in omega (arith, w.0, w.1)
 
 pub loop-at-preserved : goal.loop-at-preserved
 loop-at-preserved c =
-    let i = c.loop-at.invariant in let f : ℕ = c.in-Data.from in (search rules, i.1 - 1, i.2 ++ slice f (f + c.in-Data.more) c.args.b.now, copied_next letters_show i.3 c.requires (sym c.next_piece.ensures ∙ c.in-Data.is) (sets_long (slots c.loop-at.w) _ c.loop-at.q (letter_slots (slice f (f + c.in-Data.more) c.args.b.now)) c.put_piece.ensures) c.put_piece.ensures)
+    let i = c.loop-at.invariant in let f : ℕ = c.in-Some.piece.start in (search rules, i.1 - 1, i.2 ++ slice f (f + c.in-Some.piece.len) c.args.b.now, copied_next letters_show i.3 c.requires (sym c.next_piece.ensures ∙ c.in-Some.is) (sets_long (slots c.loop-at.w) _ c.loop-at.q (letter_slots (slice f (f + c.in-Some.piece.len) c.args.b.now)) c.put_piece.ensures) c.put_piece.ensures)
 
 pub returns : goal.returns
 returns c =
