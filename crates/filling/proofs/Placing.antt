@@ -1,6 +1,5 @@
 -- What each kind of token puts into the two tables. Assumes nothing.
-use Rattle.std.specs.Prelude.{Result, Ok, Err}
-use Rattle.tokens.specs.Refusal.{refusal_at}
+use Rattle.std.specs.Prelude.{Result, Ok}
 use Rattle.tokens.specs.declared.Refused.{Refused}
 use mathlib.Core.Path.{◌≡◌, refl, sym, ap, subst, ◌∙◌}
 use mathlib.Core.Bool.{Bool, true, false}
@@ -16,7 +15,6 @@ use Rattle.table.specs.Words.{word_bytes}
 use Rattle.table.proofs.Stores.{sets_append, word_length}
 use Rattle.tokens.specs.declared.Read.{Read}
 use Rattle.tokens.specs.declared.Read.TheVariants.{Number, Identifier, String, Operator, Comment}
-use Rattle.tokens.specs.declared.Refusal.{Refusal}
 use Rattle.tokens.specs.Joined.{joined_at, FitsText}
 use Rattle.points.specs.Point.{next_of}
 use Rattle.tokens.specs.Text.{every, is_name}
@@ -25,7 +23,7 @@ use Rattle.tokens.proofs.Told.{Told, Text}
 use Rattle.items.specs.Tokens.{Token, number, operator}
 use Rattle.tokens.specs.Joined.{data_of}
 use Rattle.lists.specs.Promise.{four_words, text_of, texts_of, words_of, list_of}
-use Rattle.filling.specs.Filling.{shown, text_token, added, Whole, Put, Room}
+use Rattle.filling.specs.Filling.{shown, text_token, added, Put, Room}
 use Rattle.lists.proofs.SameTables.{words_length}
 use Rattle.filling.proofs.Surveying.{text_one, text_of_lem, text_length}
 
