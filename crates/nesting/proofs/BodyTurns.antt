@@ -13,9 +13,8 @@ use lib.Dec.{eqb, ltb}
 use lib.IntN.{pos, ◌-ℤ◌}
 use borrow.Author.Tests.{eq-eqb, ne_eqb}
 use Rattle.numbers.specs.declared.Number.{Number}
-use Rattle.numbers.specs.Fraction.{Answer}
+use Rattle.numbers.specs.Fraction.{Answer, ratio_of}
 use Rattle.numbers.specs.declared.NoNumber.TheVariants.{TooLarge, ByZero}
-use Rattle.numbers.specs.Fraction.{ratio_of}
 use Rattle.numbers.proofs.Cond.{either}
 use Rattle.tokens.specs.declared.Read.{Read}
 use Rattle.tokens.specs.declared.Read.TheVariants as read
@@ -50,6 +49,14 @@ past (suc k) s p h = let e : suc k - 1 ≡ k = omega arith in rw e
 -- where no comment stands, the place is found
 pub stands : (k : ℕ) (s : List ℕ) (p at : ℕ) (t : Result Read Refused) → length s ≤ p + k → solid_from k s p ≡ solid s at → token_at s p ≡ t → NoComment t → p ≡ solid s at
 stands k s p at t h e f n = sym (stays t p (solid_from (k - 1) s) n) ∙ (rw f at (sym (past k s p h) ∙ e))
+
+-- a token that is no comment
+pub solid_kind : (t : Read) → ((next : ℕ) → t ≡ read.Comment next → ⊥) → NoComment (Ok t)
+solid_kind (read.Number value next) h = tt
+solid_kind (read.Identifier len next) h = tt
+solid_kind (read.String count next) h = tt
+solid_kind (read.Operator n next) h = tt
+solid_kind (read.Comment next) h = h next refl
 
 -- what holds of every token but one kind holds of a sequence that is not of that kind
 module _ (P : Result Read Refused → Type 0) (at : ℕ) (number : (v : Number) (next : ℕ) → P (Ok (read.Number v next))) (name : (len next : ℕ) → P (Ok (read.Identifier len next))) (text : (count next : ℕ) → P (Ok (read.String count next)))
@@ -126,9 +133,9 @@ module _ (m : ℕ) (s : List ℕ) (at p : ℕ) (i : Kept m s at p) where
   unfolding and_then
   ended next e = rw e at (sym (turn m i.0 s p i.1) ∙ i.2)
 
-  pub refused : (refusal : Refusal) (place : ℕ) → literal_at m s p ≡ Err (refusal_at refusal place) → Err (refusal_at refusal place) ≡ literals_from (length s) (literal_at m s) at
+  pub refused : (w : Refused) → literal_at m s p ≡ Err w → Err w ≡ literals_from (length s) (literal_at m s) at
   unfolding and_then
-  refused refusal place e = rw e at (sym (turn m i.0 s p i.1) ∙ i.2)
+  refused w e = rw e at (sym (turn m i.0 s p i.1) ∙ i.2)
 
 -- ---- a token by its form
 
@@ -166,6 +173,11 @@ not_due n at (Ok (read.Operator m next)) h = absurd h
 not_due n at (Ok (read.Comment next)) h = refl
 not_due n at (Err w) h = refl
 
+-- where `form_at` answered nothing
+pub cut : (s : List ℕ) (p m : ℕ) → token_at s p ≡ Err (refusal_at CutOff p) → literal_at m s p ≡ Err (refusal_at CutOff p)
+unfolding literal_by
+cut s p m e = rw e
+
 -- what `form_at` answered, f, and what it says
 module _ (s : List ℕ) (p : ℕ) (f : Form) where
   pub number_shown : (raw next : ℕ) → f ≡ form.Number raw next → Shows s p f → token_at s p ≡ Ok (read.Number (record { num = pos raw -ℤ pos bias; den = 1 }) next)
@@ -173,9 +185,6 @@ module _ (s : List ℕ) (p : ℕ) (f : Form) where
 
   pub operator_shown : (n next : ℕ) → f ≡ form.Operator n next → Shows s p f → token_at s p ≡ Ok (read.Operator n next)
   operator_shown n next e h = rw e at h
-
-  pub cut_shown : f ≡ form.Cut → Shows s p f → token_at s p ≡ Err (refusal_at CutOff p)
-  cut_shown e h = rw e at h
 
   -- an operator ends past its place, inside the bytes
   pub operator_ends : (n next : ℕ) → f ≡ form.Operator n next → Shows s p f → (p < next) × (next ≤ length s)
@@ -218,10 +227,6 @@ module _ (s : List ℕ) (p : ℕ) (f : Form) where
     pub passed : (q x : Result ℕ Refused) → f ≡ form.Sequence → Shows s p f → q ≡ pass_of (token_at s p) → q ≡ x → literal_at m s p ≡ passed_by x
     passed q x e h g k = by_pass p (body_at m s) (token_at s p) (no_operator e h) ∙ ap passed_by (sym g ∙ k)
 
-    pub cut : f ≡ form.Cut → Shows s p f → literal_at m s p ≡ Err (refusal_at CutOff p)
-    unfolding literal_by
-    cut e h = rw (cut_shown e h)
-
   pub passed_due : (n : ℕ) (q x : Result ℕ Refused) → f ≡ form.Sequence → Shows s p f → q ≡ pass_of (token_at s p) → q ≡ x → stopped_by p x ≡ due_by n p (token_at s p)
   passed_due n q x e h g k = sym (not_due n p (token_at s p) (no_operator e h) ∙ ap (stopped_by p) (sym g ∙ k))
 
@@ -231,10 +236,10 @@ pub due_there : (n : ℕ) (s : List ℕ) (at q : ℕ) (w : Result ℕ Refused) �
 unfolding due
 due_there n s at q w e f = rw (f, e)
 
-pub stopped : (left : ℕ) (s : List ℕ) (at : ℕ) (w : Refusal) (place : ℕ) → due opening s at ≡ Err (refusal_at w place) → Err (refusal_at w place) ≡ body_at left s at
+pub stopped : (left : ℕ) (s : List ℕ) (at : ℕ) (w : Refused) → due opening s at ≡ Err w → Err w ≡ body_at left s at
 unfolding body_at follow
-stopped zero s at w place e = rw e
-stopped (suc k) s at w place e = rw e
+stopped zero s at w e = rw e
+stopped (suc k) s at w e = rw e
 
 pub full : (left : ℕ) (s : List ℕ) (at next : ℕ) → due opening s at ≡ Ok next → left ≡ 0 → Err (refusal_at TooDeep (solid s at)) ≡ body_at left s at
 unfolding body_at follow

@@ -30,7 +30,10 @@ fn pass_comments(s: &[u8], at: usize) -> usize
     let mut p = at;
     loop {
         let taken = points::take(s, p);
-        let Ok(Read::Comment { .. }) = taken.token else {
+        let Ok(token) = taken.token else {
+            return p;
+        };
+        let Read::Comment { .. } = token else {
             return p;
         };
         p = taken.next;
@@ -55,13 +58,14 @@ pub fn due_here(n: u16, s: &[u8], at: usize) -> Result<usize, Refused>
         return Err(Refusal::CutOff.met_at(at));
     };
     match form {
-        Form::Operator { number, next } if number == n => return Ok(next),
-        Form::Operator { .. } | Form::Number { .. } => {}
+        Form::Operator { number, next } if number == n => Ok(next),
+        Form::Operator { .. } => Err(Refusal::NotAllowed.met_at(at)),
+        Form::Number { .. } => Err(Refusal::NotAllowed.met_at(at)),
         Form::Sequence => {
             pass_sequence(s, at)?;
+            Err(Refusal::NotAllowed.met_at(at))
         }
     }
-    Err(Refusal::NotAllowed.met_at(at))
 }
 
 // Past the operator n, which is due from `at` on, comments aside.

@@ -9,8 +9,8 @@ decreases-body l = length l.s.now - l.at
 abbrev pub decreases-literals : goal.decreases-literals
 decreases-literals l = length l.s.now - l.at
 
-abbrev pub invariant-literals-loop-next : goal.invariant-literals-loop-next
-invariant-literals-loop-next l = Kept l.left l.s l.at l.p
+abbrev pub invariant-literals-loop-form : goal.invariant-literals-loop-form
+invariant-literals-loop-form l = Kept l.left l.s l.at l.p
 
-abbrev pub decreases-literals-loop-next : goal.decreases-literals-loop-next
-decreases-literals-loop-next l = length l.s - l.p
+abbrev pub decreases-literals-loop-form : goal.decreases-literals-loop-form
+decreases-literals-loop-form l = length l.s - l.p

@@ -1,37 +1,36 @@
 -- `bodies::due_here` meets its contract: the token by its form, case by case. Assumes nothing.
-use mathlib.Core.Path.{◌∙◌}
+use Rattle.std.specs.Prelude.{Err}
+use Rattle.std.proofs.lemmas.Result.{err_from_is_err_and}
+use mathlib.Core.Path.{ap, ◌∙◌}
 use borrow.Author.Tests.{eq-eqb, ne_eqb}
 use Rattle.machine.specs.Skeleton.{due_by}
-use Rattle.nesting.proofs.BodyTurns.{number_shown, operator_shown, cut_shown, passed_due, stopped_by}
-use Rattle.passing.proofs.Knowing.{sequence_shown}
+use Rattle.nesting.proofs.BodyTurns.{number_shown, operator_shown, passed_due, stopped_by}
 use Rattle.nesting.proofs.bodies.due_here.Goals as goal
 
-pub pass_sequence-requires : goal.pass_sequence-requires
-pass_sequence-requires c = sequence_shown _ _ _ c.in-Sequence.is c.form_at.ensures
-
-pub returns-then-number-n : goal.returns-then-number-n
+pub returns-in_default : goal.returns-in_default
 unfolding due_by
-returns-then-number-n c = rw (operator_shown _ _ _ _ _ c.in-Operator.is c.form_at.ensures, eq-eqb _ _ c.if-number-n.true)
+returns-in_default c = rw (c.in_default.ensures, c.met_at.ensures)
 
-pub returns-else-number-n : goal.returns-else-number-n
+pub returns-in-Operator : goal.returns-in-Operator
 unfolding due_by
-returns-else-number-n c =
-    rw (operator_shown _ _ _ _ _ c.in-Operator.is c.form_at.ensures, ne_eqb _ _ c.if-number-n.false, c.not_allowed.ensures)
+returns-in-Operator c = rw (operator_shown _ _ _ _ _ c.in-Operator.is c.in-Some.ensures, eq-eqb _ _ c.if-number-n.true)
+
+pub returns-in-Operator-2 : goal.returns-in-Operator-2
+unfolding due_by
+returns-in-Operator-2 c =
+    rw (operator_shown _ _ _ _ _ c.in-Operator.is c.in-Some.ensures, ne_eqb _ _ c.if-number-n.false, c.met_at-in-Operator-2.ensures)
 
 pub returns-in-Number : goal.returns-in-Number
 unfolding due_by
-returns-in-Number c = rw (number_shown _ _ _ _ _ c.in-Number.is c.form_at.ensures, c.not_allowed-in-Number.ensures)
+returns-in-Number c = rw (number_shown _ _ _ _ _ c.in-Number.is c.in-Some.ensures, c.met_at-in-Number.ensures)
 
-pub returns-in-Over : goal.returns-in-Over
+pub returns-in_err-pass_sequence-in-Sequence : goal.returns-in_err-pass_sequence-in-Sequence
 unfolding stopped_by
-returns-in-Over c =
-    c.not_allowed-in-Over.ensures ∙ passed_due _ _ _ c.args.n _ _ c.in-Sequence.is c.form_at.ensures c.pass_sequence.ensures c.in-Over.is
+returns-in_err-pass_sequence-in-Sequence c =
+    let p = err_from_is_err_and c.from_residual.result c.from_residual.ensures.1 in
+    rw (p.1, p.2) (passed_due _ _ _ c.args.n _ _ c.in-Sequence.is c.in-Some.ensures c.pass_sequence.ensures c.in_err-pass_sequence-in-Sequence.was)
 
-pub returns-in-Unread : goal.returns-in-Unread
+pub returns-in_ok-pass_sequence-in-Sequence : goal.returns-in_ok-pass_sequence-in-Sequence
 unfolding stopped_by
-returns-in-Unread c =
-    passed_due _ _ _ c.args.n _ _ c.in-Sequence.is c.form_at.ensures c.pass_sequence.ensures c.in-Unread.is
-
-pub returns-in-Cut : goal.returns-in-Cut
-unfolding due_by
-returns-in-Cut c = rw (cut_shown _ _ _ c.in-Cut.is c.form_at.ensures, c.cut_off.ensures)
+returns-in_ok-pass_sequence-in-Sequence c =
+    ap Err c.met_at-in-Sequence.ensures ∙ passed_due _ _ _ c.args.n _ _ c.in-Sequence.is c.in-Some.ensures c.pass_sequence.ensures c.in_ok-pass_sequence-in-Sequence.was
