@@ -12,10 +12,10 @@ fn step_of(token: Read) -> Step
     ensures { Ok result ≡ step_of (Ok token) }
 {
     match token {
-        Read::Number { next, .. } => Step::new(1, 0, next),
-        Read::Identifier { len, next } => Step::new(1, len, next),
-        Read::String { count, next } => Step::new(1, count, next),
-        Read::Operator { next, .. } => Step::new(1, 0, next),
+        Read::Number { next, .. } | Read::Operator { next, .. } => Step::new(1, 0, next),
+        Read::Identifier { len, next } | Read::String { count: len, next } => {
+            Step::new(1, len, next)
+        }
         Read::Comment { next } => Step::new(0, 0, next),
     }
 }

@@ -226,8 +226,7 @@ fn size_of(item: Item) -> usize
 {
     match item {
         Item::Number { num, den } => number_size(num, den),
-        Item::Identifier { len, .. } => text_size(len),
-        Item::String { len, .. } => text_size(len),
+        Item::Identifier { len, .. } | Item::String { len, .. } => text_size(len),
         Item::Operator { number } => { if number < 32 { 1 } else { 2 } }
     }
 }
