@@ -103,3 +103,12 @@ module _ (b : List ℕ) (at : ℕ) (t : Result Read Refused) (e : t ≡ token_at
     pub is_unread : (r : Refusal) (p : ℕ) → t ≡ Err (refusal_at r p) → Is (nothing_at b) d → Is (found_at b at) d
     unfolding found_at found_by
     is_unread r p f k = rw (← e, f) k
+
+    -- a token that is none of the three that may stand there
+    pub is_other : (x : Read) → (at < length b) × (192 ≤ get_or b at 0) → t ≡ Ok x → ((value : num.Number) (next : ℕ) → x ≡ read.Number value next → ⊥) → ((len next : ℕ) → x ≡ read.Identifier len next → ⊥)
+        → ((count next : ℕ) → x ≡ read.String count next → ⊥) → Is (nothing_at b) d → Is (found_at b at) d
+    is_other (read.Number value next) g f n i s k = absurd (n value next refl)
+    is_other (read.Identifier len next) g f n i s k = absurd (i len next refl)
+    is_other (read.String count next) g f n i s k = absurd (s count next refl)
+    is_other (read.Operator m next) g f n i s k = is_sequence m next g f
+    is_other (read.Comment next) g f n i s k = is_comment next f k

@@ -1,5 +1,5 @@
 -- What skipping asks of a literal, told by the token's form. Assumes nothing.
-use Rattle.std.specs.Prelude.{Result, Ok, Err}
+use Rattle.std.specs.Prelude.{Result, Ok, Err, Some}
 use Rattle.tokens.specs.declared.Refused.{Refused}
 use Prim.Native.Nat.{ℕ, ◌<◌, ◌≤◌}
 use mathlib.Core.Path.{◌≡◌, refl, sym, ◌∙◌}
@@ -21,12 +21,12 @@ use Rattle.machine.specs.declared.Role.{Role}
 use Rattle.machine.specs.declared.Role.TheVariants as role
 use Rattle.machine.specs.declared.Literal.TheVariants.{Figure, Plain}
 use Rattle.machine.specs.Skeleton.{role_of, solid}
-use Rattle.machine.specs.Literal.{Found, found, nothing_at, operator_by, found_by, found_at}
+use Rattle.machine.specs.Literal.{Found, found, operator_by, found_by, found_at}
 use Rattle.machine.specs.Step.{is_unmark0}
 use Rattle.machine.specs.Readable.{NoComment}
 use Rattle.machine.proofs.Comments.{never, Comments, none_at, one_at, comments_are}
 use Rattle.machine.proofs.Inside.{token_inside}
-use Rattle.nesting.proofs.BodyTurns.{NoOperator, number_shown, operator_shown, cut_shown, operator_ends, no_operator}
+use Rattle.nesting.proofs.BodyTurns.{NoOperator, number_shown, operator_shown, operator_ends, no_operator}
 use Rattle.literals.specs.declared.Due.{Due}
 use Rattle.literals.specs.Dues.{Is, Passes, Tells}
 
@@ -83,17 +83,10 @@ module _ (b : List ℕ) (at : ℕ) where
     unfolding operator_by
     plain_found n next past e p i = operator_found n next e ∙ (rw (i, ← p))
 
-    pub cut_found : f ≡ form.Cut → found_at b at ≡ nothing_at b
-    unfolding found_at found_by
-    cut_found e = rw (cut_shown b at f e h)
-
 -- ---- an operator without a body
 
-pub bare_there : (b : List ℕ) (at : ℕ) (f : Form) (n next past : ℕ) (r : Role) → Shows b at f → f ≡ form.Operator n next → r ≡ role_of n → r ≡ role.Plain → past ≡ solid b next → Tells b at (record { number = n; next = past })
+pub bare_there : (b : List ℕ) (at : ℕ) (f : Form) (n next past : ℕ) (r : Role) → Shows b at f → f ≡ form.Operator n next → r ≡ role_of n → r ≡ role.Plain → past ≡ solid b next → Tells b at (Some (record { number = n; next = past }))
 bare_there b at f n next past r h e i j p = record {
-  there = λ _. plain_found b at f h n next past e p (sym i ∙ j);
-  inside = λ _. omega (arith, p, solid_inside b next (operator_ends b at f n next e h).1);
+  there = plain_found b at f h n next past e p (sym i ∙ j);
+  inside = omega (arith, p, solid_inside b next (operator_ends b at f n next e h).1);
 }
-
-pub bare_untold : (b : List ℕ) (at next n : ℕ) → n ≡ 0 → Tells b at (record { number = n; next = next })
-bare_untold b at next n e = record { there = λ f. absurd (f e); inside = λ f. absurd (f e) }

@@ -1,6 +1,5 @@
 -- What the reader of literals answers, against the definition. Assumes nothing.
-use Rattle.std.specs.Prelude.{Ok}
-use Rattle.std.specs.Prelude.{◌≡◌, ℕ, ◌≤◌, List, length}
+use Rattle.std.specs.Prelude.{◌≡◌, ℕ, ◌≤◌, List, length, Ok, Option, Some, None}
 use Rattle.machine.specs.declared.Literal.TheVariants.{Plain}
 use Rattle.machine.specs.declared.Role.TheVariants.{Holds}
 use Rattle.machine.specs.Limits.{most_open}
@@ -31,7 +30,12 @@ pub record PastOperator (b : List ℕ) (n next p : ℕ) : Type 0 where
   pub holds : role_of n ≡ Holds → (end : ℕ) × (body_at most_open b next ≡ Ok end) × (p ≡ solid b end)
   pub holds_none : (role_of n ≡ Holds → ⊥) → p ≡ solid b next
 
--- the operator r stands at `at`, unless its number is 0
-pub record Tells (b : List ℕ) (at : ℕ) (r : Bare) : Type 0 where
-  pub there : (r.number ≡ 0 → ⊥) → found_at b at ≡ record { literal = Plain r.number; next = r.next }
-  pub inside : (r.number ≡ 0 → ⊥) → r.next ≤ length b
+-- the operator r stands at `at`
+pub record BareThere (b : List ℕ) (at : ℕ) (r : Bare) : Type 0 where
+  pub there : found_at b at ≡ record { literal = Plain r.number; next = r.next }
+  pub inside : r.next ≤ length b
+
+-- the same, if one is told
+abbrev pub Tells : List ℕ → ℕ → Option Bare → Type 0
+Tells b at (Some r) = BareThere b at r
+Tells b at None = Unit

@@ -17,7 +17,7 @@ pub struct Ahead {
     pub unmarks: bool,
 }
 
-// An operator without a body, by its number, and where the next literal stands. The number 0 tells nothing of the literal.
+// An operator without a body, by its number, and where the next literal stands, past comments.
 #[derive(Clone, Copy)]
 pub struct Bare {
     pub number: u16,

@@ -9,6 +9,7 @@ ghost use Rattle.literals.specs.Dues.{LiteralThere, Is, Passes, PastOperator, Te
 use crate::{Ahead, Bare, Due};
 use machine::{Literal, Role};
 use spans::WORDS;
+use tokens::{Form, Read};
 
 fn found(b: &[u8], literal: Literal, next: usize) -> Due
     ensures { Is (found b.now literal next) result }
@@ -74,27 +75,25 @@ fn read_sequence(b: &[u8], at: usize) -> Due
     requires { (length b.now ≤ 16777215) × ((at < length b.now) × (192 ≤ get_or b.now at 0)) }
     ensures { Is (found_at b.now at) result }
 {
-    match reader::reading::read_token(b, at) {
-        tokens::Read::Number { value, next } => found(b, Literal::Figure(value), next),
-        tokens::Read::Identifier { len, next } => {
+    let Ok(token) = reader::reading::read_token(b, at) else {
+        return nothing(b);
+    };
+    match token {
+        Read::Number { value, next } => found(b, Literal::Figure(value), next),
+        Read::Identifier { len, next } => {
             let name = Literal::Name {
                 start: table::words::word(at),
                 len: table::words::word(len),
             };
             found(b, name, next)
         }
-        tokens::Read::String { count: _, next } => {
+        Read::String { next, .. } => {
             let text = Literal::Text {
                 start: table::words::word(at),
             };
             found(b, text, next)
         }
-        tokens::Read::Operator { number: _, next: _ } => nothing(b),
-        tokens::Read::Comment { next: _ } => nothing(b),
-        tokens::Read::Unread {
-            refusal: _,
-            place: _,
-        } => nothing(b),
+        _ => nothing(b),
     }
 }
 
@@ -133,40 +132,31 @@ pub fn due(b: &[u8], at: usize, memo: &mut [u32]) -> Due
     ensures { Is (found_at b.now at) result × Noted b.now memo.new }
 {
     match passing::known::form(b, at) {
-        tokens::Form::Number { raw, next } => {
+        Form::Number { raw, next } => {
             let value = reader::reading::short_value(raw);
             found(b, Literal::Figure(value), next)
         }
-        tokens::Form::Operator { number, next } => operator(b, number, next, memo),
-        tokens::Form::Sequence => due_sequence(b, at),
-        tokens::Form::Cut => nothing(b),
+        Form::Operator { number, next } => operator(b, number, next, memo),
+        Form::Sequence => due_sequence(b, at),
     }
 }
 
 // ---- literals told by their first bytes
 
-const UNTOLD: u16 = 0;
-
 // The operator without a body at `at`, if one stands there.
-pub fn bare_operator(b: &[u8], at: usize) -> Bare
+pub fn bare_operator(b: &[u8], at: usize) -> Option<Bare>
     ensures { Tells b.now at result }
 {
-    match tokens::forms::form_at(b, at) {
-        tokens::Form::Operator { number, next } => match nesting::roles::role_of(number) {
-            Role::Plain => Bare {
-                number,
-                next: nesting::bodies::past_comments(b, next),
-            },
-            _ => Bare {
-                number: UNTOLD,
-                next: at,
-            },
-        },
-        _ => Bare {
-            number: UNTOLD,
-            next: at,
-        },
-    }
+    let Some(Form::Operator { number, next }) = tokens::forms::form_at(b, at) else {
+        return None;
+    };
+    let Role::Plain = nesting::roles::role_of(number) else {
+        return None;
+    };
+    Some(Bare {
+        number,
+        next: nesting::bodies::past_comments(b, next),
+    })
 }
 
 // ---- literals that are passed over
@@ -193,20 +183,16 @@ pub fn ahead(b: &[u8], at: usize) -> Ahead
     ensures { Passes (found_at b.now at) result }
 {
     match passing::known::form(b, at) {
-        tokens::Form::Number { raw: _, next } => Ahead {
+        Form::Number { next, .. } => Ahead {
             next: nesting::bodies::past_comments(b, next),
             unmarks: false,
         },
-        tokens::Form::Operator { number, next } => Ahead {
+        Form::Operator { number, next } => Ahead {
             next: past_operator(b, number, next),
             unmarks: number == UNMARK0,
         },
-        tokens::Form::Sequence => Ahead {
+        Form::Sequence => Ahead {
             next: nesting::bodies::past_comments(b, passing::known::extent(b, at).next),
-            unmarks: false,
-        },
-        tokens::Form::Cut => Ahead {
-            next: at,
             unmarks: false,
         },
     }

@@ -233,7 +233,7 @@ pub where_first : (s : List ℕ) (at : ℕ) → Where s (replicate 16 0) at 0 at
 where_first s at =
     before_body ((λ _. refl), record { few = omega arith; long = length-replicate {A = ℕ} 16 0; first = λ l. absurd (omega arith); each = λ j l. absurd (omega arith) })
 
-over_same : {x next : ℕ} → Ok x ≡ Ok next → x ≡ next
+over_same : {x next : ℕ} → ◌≡◌ {A = Result ℕ Refused} (Ok x) (Ok next) → x ≡ next
 over_same e = cc
 
 never_stops : {w : Result ℕ Refused} {end : ℕ} (refusal : Refusal) (place : ℕ) → w ≡ Ok end → w ≡ Err (refusal_at refusal place) → ⊥

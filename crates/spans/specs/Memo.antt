@@ -1,6 +1,5 @@
 -- Where bodies end, noted for who asks again: for contracts of inner functions alone. In order: the notes; a body that has been judged. Assumes nothing.
-use Rattle.std.specs.Prelude.{Ok}
-use Rattle.std.specs.Prelude.{ℕ, ◌+◌, ◌*◌, ◌%◌, ◌<◌, ◌≤◌, ◌≡◌, List, length, get_or, set}
+use Rattle.std.specs.Prelude.{ℕ, ◌+◌, ◌*◌, ◌%◌, ◌<◌, ◌≤◌, ◌≡◌, List, length, get_or, set, Ok, Option, Some, None}
 use Rattle.machine.specs.Limits.{most_open}
 use Rattle.machine.specs.Skeleton.{body_at}
 
@@ -20,6 +19,11 @@ pub record Seen (t : List ℕ) (at end : ℕ) : Type 0 where
   pub some : at ≡ 0 → ⊥
   pub begins : get_or t (2 * (at % 64)) 0 ≡ at
   pub ends : get_or t (2 * (at % 64) + 1) 0 ≡ end
+
+-- what the notes answer, if they have any on the body due at `at`
+abbrev pub SeenIfAny : List ℕ → ℕ → Option ℕ → Type 0
+SeenIfAny t at (Some end) = Seen t at end
+SeenIfAny t at None = Unit
 
 -- ---- a body that has been judged
 

@@ -4,9 +4,8 @@
 
 ghost use Rattle.std.specs.Prelude.{◌≡◌, ◌<◌, ◌≤◌, length};
 ghost use Rattle.machine.specs.Limits.{most_open};
-ghost use Rattle.machine.specs.declared.Went.TheVariants.{Past};
 ghost use Rattle.machine.specs.Skeleton.{body_at};
-ghost use Rattle.spans.specs.Memo.{Noted, with_note, Seen, BodyEnds};
+ghost use Rattle.spans.specs.Memo.{Noted, with_note, SeenIfAny, BodyEnds};
 
 use nesting::bodies::MOST_OPEN;
 
@@ -28,19 +27,19 @@ fn note(memo: &mut [u32], at: usize, end: usize)
     memo[i + 1] = table::words::word(end);
 }
 
-// Where the body due at `at` ends, 0 if that is not noted.
-pub fn seen(memo: &[u32], at: usize) -> usize
+// Where the body due at `at` ends, if that is noted.
+pub fn seen(memo: &[u32], at: usize) -> Option<usize>
     requires { 128 ≤ length memo.now }
-    ensures { (result ≡ 0 → ⊥) → Seen memo.now at result }
+    ensures { SeenIfAny memo.now at result }
 {
     if at == 0 {
-        return 0;
+        return None;
     }
     let i = 2 * (at % NOTES);
     if table::words::size(memo[i]) == at {
-        return table::words::size(memo[i + 1]);
+        return Some(table::words::size(memo[i + 1]));
     }
-    0
+    None
 }
 
 // ---- the pass
@@ -55,7 +54,7 @@ const CLOSE: u8 = 107;
 // Where the body ends whose `{` is due from `at` on, by the braces between. `starts` says where the `{` of each open one stands.
 pub fn pass(s: &[u8], at: usize, memo: &mut [u32]) -> usize
     requires { (length s.now ≤ 16777215) × Noted s.now memo.old × BodyEnds s.now at }
-    ensures { (body_at most_open s.now at ≡ Past result) × Noted s.now memo.new }
+    ensures { (body_at most_open s.now at ≡ Ok result) × Noted s.now memo.new }
 {
     let mut starts = [0usize; MOST_OPEN];
     let mut count: usize = 0;
@@ -87,11 +86,10 @@ pub fn pass(s: &[u8], at: usize, memo: &mut [u32]) -> usize
 // Where the body ends whose `{` is due from `at` on, by the notes or passed over.
 pub fn span_of(s: &[u8], at: usize, memo: &mut [u32]) -> usize
     requires { (length s.now ≤ 16777215) × Noted s.now memo.old × BodyEnds s.now at }
-    ensures { (body_at most_open s.now at ≡ Past result) × Noted s.now memo.new }
+    ensures { (body_at most_open s.now at ≡ Ok result) × Noted s.now memo.new }
 {
-    let end = seen(memo, at);
-    if end == 0 {
-        return pass(s, at, memo);
+    if let Some(end) = seen(memo, at) {
+        return end;
     }
-    end
+    pass(s, at, memo)
 }

@@ -1,6 +1,6 @@
 use Rattle.nesting.proofs.BodyTurns.{operator_shown}
 use Rattle.literals.proofs.Passing.{number_over, sequence_over}
-use Rattle.passing.proofs.Knowing.{sequence_shown, shown_cut, ends_there}
+use Rattle.passing.proofs.Knowing.{sequence_shown, ends_there}
 use Rattle.literals.proofs.Standing.{stands_reads, stands_solid, stands_ends, operator_passes}
 use mathlib.Core.Path.{refl}
 use Rattle.literals.proofs.reading.ahead.Goals as goal
@@ -25,6 +25,3 @@ returns-in-Operator c =
 pub returns-in-Sequence : goal.returns-in-Sequence
 returns-in-Sequence c =
     let g = sequence_shown _ _ _ c.in-Sequence.is c.form.ensures in sequence_over _ _ g _ refl _ _ (stands_solid _ c.requires.1) (ends_there _ _ g.1 (stands_reads _ c.requires.1) _ c.extent.ensures) c.past_comments-in-Sequence.ensures
-
-pub returns-in-Cut : goal.returns-in-Cut
-returns-in-Cut c = absurd (shown_cut _ _ _ c.form.ensures c.in-Cut.is (stands_reads _ c.requires.1))

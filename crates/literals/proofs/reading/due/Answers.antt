@@ -1,5 +1,5 @@
 use Rattle.nesting.proofs.BodyTurns.{operator_shown}
-use Rattle.literals.proofs.Passing.{number_found, operator_found, cut_found, is_as}
+use Rattle.literals.proofs.Passing.{number_found, operator_found, is_as}
 use Rattle.passing.proofs.Knowing.{sequence_shown}
 use Rattle.literals.proofs.Standing.{stands_reads, stands_ends}
 use Rattle.literals.proofs.reading.due.Goals as goal
@@ -21,6 +21,3 @@ returns-in-Number c =
 pub returns-in-Operator : goal.returns-in-Operator
 returns-in-Operator c =
     (is_as (operator_found _ _ _ c.form.ensures _ _ c.in-Operator.is) c.operator.ensures.0, c.operator.ensures.1)
-
-pub returns-in-Cut : goal.returns-in-Cut
-returns-in-Cut c = (is_as (cut_found _ _ _ c.form.ensures c.in-Cut.is) c.nothing.ensures, c.requires.1)
