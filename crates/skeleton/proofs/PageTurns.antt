@@ -1,7 +1,7 @@
 -- The loop over pages, a turn at a time, the answer by what was read, and where its bodies stand. In order: a turn; a body more; the count
 -- of pages; the master. Assumes nothing.
 use Rattle.std.specs.Prelude.{Result, Ok, Err}
-use Rattle.tokens.specs.Refusal.{refusal_at}
+use Rattle.tokens.specs.Refusal.{refusal_at, Outcome}
 use Rattle.tokens.specs.declared.Refused.{Refused}
 use mathlib.Core.Path.{◌≡◌, refl, sym, ap, ◌∙◌}
 use mathlib.Core.Logic.{◌≢◌}
@@ -16,8 +16,7 @@ use borrow.Author.Tests.{lt-leb, le-leb, leb-true}
 use Rattle.tokens.specs.declared.Read.{Read}
 use Rattle.tokens.specs.declared.Read.TheVariants.{Number, Identifier, String, Operator, Comment}
 use Rattle.tokens.specs.declared.Refusal.{Refusal}
-use Rattle.tokens.specs.declared.Refusal.TheVariants.{BadHeader, TooManyPages}
-use Rattle.tokens.specs.Refusal.{Outcome}
+use Rattle.tokens.specs.declared.Refusal.TheVariants.{BadHeader, NotAllowed, TooManyPages}
 use Rattle.tokens.specs.Format.{header, starts}
 use Rattle.tokens.specs.Token.{token_at}
 use Rattle.tokens.proofs.Theorems.{token_end}
@@ -35,6 +34,15 @@ use Rattle.skeleton.specs.Spans.{Stands, Placed, noted, Surveyed}
 use Rattle.skeleton.specs.Turns.{page_or, page_turn, end_turn, turn_by, turn_at}
 
 -- ---- a turn
+
+-- no operator and no comment
+pub barred : (t : Read) (s : List ℕ) (had at : ℕ) → ((n next : ℕ) → t ≡ Operator n next → ⊥) → ((next : ℕ) → t ≡ Comment next → ⊥) → Err (refusal_at NotAllowed at) ≡ turn_by s had at (Ok t)
+unfolding turn_by
+barred (Number value next) s had at f g = refl
+barred (Identifier len next) s had at f g = refl
+barred (String count next) s had at f g = refl
+barred (Operator n next) s had at f g = absurd (f n next refl)
+barred (Comment next) s had at f g = absurd (g next refl)
 
 -- what a turn makes of the bodies so far
 unfoldable turned : List Span → ℕ → Result Turn Refused → (ℕ → List Span → Skeleton) → Skeleton
@@ -187,9 +195,9 @@ unsound : {X : Type 0} {w : Refusal} {place : ℕ} {spans : List Span} → refus
 unsound e = never (cc)
 
 -- a refusal leaves no bodies
-halted_so : (s t : List ℕ) (w : Refusal) (place : ℕ) (x : Skeleton) → x ≡ refused w place → Surveyed s t x (Err (refusal_at w place))
+halted_so : (s t : List ℕ) (w : Refused) (x : Skeleton) → x ≡ refused w.refusal w.place → Surveyed s t x (Err w)
 unfolding pages_in
-halted_so s t w place x e = record { answer = rw e; placed = λ spans f. unsound (sym e ∙ f) }
+halted_so s t w x e = record { answer = rw e; placed = λ spans f. unsound (sym e ∙ f) }
 
 -- at p, after so many bodies with the preamble's: whatever that one's span is, the skeleton is what it is from `at` on, and the bodies
 -- so far stand where t says
@@ -252,28 +260,28 @@ module _ (s t₀ : List ℕ) (at : ℕ) (t : List ℕ) (p had : ℕ) (c : Counti
         let j = turn_said (Ok Ended) e q h in
         record { answer = ap (λ (n : ℕ). Ok (n - 1)) (sym j.1) ∙ ap pages_in j.2; placed = λ spans f. let z : j.0 ≡ spans = same_sound (j.2 ∙ f) in rw (← z) j.3 }
 
-    pub counting_halts : (w : Refusal) (place : ℕ) → turn_at s had p ≡ Err (refusal_at w place) → Surveyed s t (pages_from (length s) s at (q ∷ [])) (Err (refusal_at w place))
+    pub counting_halts : (w : Refused) → turn_at s had p ≡ Err w → Surveyed s t (pages_from (length s) s at (q ∷ [])) (Err w)
     unfolding turned pages_in
-    counting_halts w place e = let j = turn_said (Err (refusal_at w place)) e q h in halted_so s t w place (pages_from (length s) s at (q ∷ [])) (sym j.2)
+    counting_halts w e = let j = turn_said (Err w) e q h in halted_so s t w (pages_from (length s) s at (q ∷ [])) (sym j.2)
 
 -- ---- the master
 
 module _ (s : List ℕ) (t : List ℕ) where
   pub headless : starts header s ≡ false → Surveyed s t (skeleton_of s) (Err (refusal_at BadHeader 0))
   unfolding skeleton_of
-  headless e = halted_so s t BadHeader 0 (skeleton_of s) (rw e)
+  headless e = halted_so s t (refusal_at BadHeader 0) (skeleton_of s) (rw e)
 
   pub begun : (next : ℕ) (r : Outcome) → starts header s ≡ true → due beginning s 21 ≡ Ok next → Surveyed s t (preamble_at s next) r → Surveyed s t (skeleton_of s) r
   unfolding skeleton_of onward
   begun next r e f g = rw (e, f) g
 
-  pub not_begun : (w : Refusal) (place : ℕ) → starts header s ≡ true → due beginning s 21 ≡ Err (refusal_at w place) → Surveyed s t (skeleton_of s) (Err (refusal_at w place))
+  pub not_begun : (w : Refused) → starts header s ≡ true → due beginning s 21 ≡ Err w → Surveyed s t (skeleton_of s) (Err w)
   unfolding skeleton_of onward
-  not_begun w place e f = halted_so s t w place (skeleton_of s) (rw (e, f))
+  not_begun w e f = halted_so s t w (skeleton_of s) (rw (e, f))
 
-  pub preamble_bad : (at : ℕ) (w : Refusal) (place : ℕ) → body_at most_open s at ≡ Err (refusal_at w place) → Surveyed s t (preamble_at s at) (Err (refusal_at w place))
+  pub preamble_bad : (at : ℕ) (w : Refused) → body_at most_open s at ≡ Err w → Surveyed s t (preamble_at s at) (Err w)
   unfolding preamble_at onward
-  preamble_bad at w place e = halted_so s t w place (preamble_at s at) (rw e)
+  preamble_bad at w e = halted_so s t w (preamble_at s at) (rw e)
 
   -- the preamble noted, then the pages
   pub preamble_read : (t₀ t₁ : List ℕ) (at next : ℕ) (r : Outcome) → 1026 ≤ length t₀ → body_at most_open s at ≡ Ok next → t₁ ≡ noted t₀ 0 (solid s at) next
@@ -293,6 +301,6 @@ module _ (s : List ℕ) where
     unfolding page_turn page_or
     page_read next h e = rw (le-leb had most_pages h, e)
 
-    pub page_bad : (w : Refusal) (place : ℕ) → had ≤ most_pages → body_at most_open s at ≡ Err (refusal_at w place) → Err (refusal_at w place) ≡ page_turn s had at
+    pub page_bad : (w : Refused) → had ≤ most_pages → body_at most_open s at ≡ Err w → Err w ≡ page_turn s had at
     unfolding page_turn page_or
-    page_bad w place h e = rw (le-leb had most_pages h, e)
+    page_bad w h e = rw (le-leb had most_pages h, e)

@@ -1,8 +1,7 @@
 -- One token where a page or END is due, for contracts of inner functions alone: `pages_from` of `machine` a token at a time. Assumes nothing.
-use Rattle.std.specs.Prelude.{Result, Ok, Err}
+use Rattle.std.specs.Prelude.{Result, Ok, Err, ℕ, cond, List, eqb, leb, length}
 use Rattle.tokens.specs.Refusal.{refusal_at}
 use Rattle.tokens.specs.declared.Refused.{Refused}
-use Rattle.std.specs.Prelude.{ℕ, cond, List, eqb, leb, length}
 use Rattle.tokens.specs.declared.Read.{Read}
 use Rattle.tokens.specs.declared.Read.TheVariants.{Number, Identifier, String, Operator, Comment}
 use Rattle.tokens.specs.declared.Refusal.TheVariants.{NotAllowed, AfterEnd, TooManyPages}

@@ -3,18 +3,10 @@
 
 pub mod pages; // header, BEGIN, preamble, pages, END; load
 
-// What stands where a page or END is due: a comment, a page's body, END at the end of the bytes; or a refusal.
+// What stands where a page or END is due: a comment, a page's body, END at the end of the bytes.
 #[derive(Clone, Copy)]
 pub enum Turn {
-    Aside {
-        next: usize,
-    },
-    Page {
-        next: usize,
-    },
+    Aside { next: usize },
+    Page { next: usize },
     Ended,
-    Halt {
-        refusal: tokens::Refusal,
-        place: usize,
-    },
 }

@@ -7,6 +7,6 @@ pub returns-then-next-s : goal.returns-then-next-s
 unfolding end_turn
 returns-then-next-s c = rw (eq-eqb _ _ c.if-next-s.true)
 
-pub returns-else-next-s : goal.returns-else-next-s
+pub returns : goal.returns
 unfolding end_turn
-returns-else-next-s c = rw (ne_eqb _ _ c.if-next-s.false)
+returns c = rw (ne_eqb _ _ c.if-next-s.false, c.met_at.ensures)

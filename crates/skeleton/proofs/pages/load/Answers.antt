@@ -1,5 +1,6 @@
 -- `pages::load` meets its promise: the length, then the skeleton. Assumes nothing.
-use mathlib.Core.Path.{◌∙◌}
+use Rattle.std.specs.Prelude.{Err}
+use mathlib.Core.Path.{ap, ◌∙◌}
 use native.Mathlib.Omega.{arith}
 use lib.ListN.{length}
 use borrow.Author.Tests.{lt-leb, le-leb}
@@ -10,7 +11,7 @@ use Rattle.skeleton.proofs.pages.load.Goals as goal
 pub returns-then-s-gt-LONGEST : goal.returns-then-s-gt-LONGEST
 unfolding load_answer
 returns-then-s-gt-LONGEST c =
-    let s = c.args.s.now in record { answer = c.refused.ensures ∙ rw (lt-leb (length s) longest (omega (arith, c.if-s-gt-LONGEST.true))) }
+    let s = c.args.s.now in record { answer = ap Err c.met_at.ensures ∙ rw (lt-leb (length s) longest (omega (arith, c.if-s-gt-LONGEST.true))) }
 
 pub returns : goal.returns
 unfolding load_answer
