@@ -1,6 +1,6 @@
 -- What is judged before anything runs. In order: numbers from outside; refusals; a master that may run. Assumes nothing.
 use Rattle.std.specs.Prelude.{Ok, Err}
-use Rattle.tokens.specs.Refusal.{refusal_at}
+use Rattle.tokens.specs.Refusal.{refusal_at, Outcome}
 use Prim.Native.Nat.{ℕ, ◌-◌, ◌<◌, ◌≤◌}
 use native.Mathlib.Omega.{arith}
 use mathlib.Core.Path.{◌≡◌, refl, sym, ap, ◌∙◌}
@@ -14,8 +14,8 @@ use borrow.Author.Tests.{lt-leb, le-leb, leb-true}
 use Rattle.numbers.proofs.Cond.{both}
 use Rattle.tokens.specs.Format.{longest}
 use Rattle.tokens.specs.declared.Refusal.{Refusal}
+use Rattle.tokens.specs.declared.Refused.{Refused}
 use Rattle.tokens.specs.declared.Refusal.TheVariants.{TooLong, TableTooShort, BadAllowance}
-use Rattle.tokens.specs.Refusal.{Outcome}
 use Rattle.machine.specs.Limits.{most_steps}
 use Rattle.machine.specs.Skeleton.{Skeleton, sound, refused, skeleton_of}
 use Rattle.machine.specs.Page.{bodies_of}
@@ -48,16 +48,16 @@ asked low e f g i = rw (← e, ← f) (sym g ∙ i)
 
 -- ---- refusals
 
-refused_one : {w v : Refusal} {p q : ℕ} → Err (refusal_at w p) ≡ Err (refusal_at v q) → (w ≡ v) × (p ≡ q)
-refused_one e = (cc, cc)
+refused_one : {w v : Refused} → ◌≡◌ {A = Outcome} (Err w) (Err v) → (w.refusal ≡ v.refusal) × (w.place ≡ v.place)
+refused_one {w} {v} e = let f : w ≡ v = cc in (ap (λ (x : Refused). x.refusal) f, ap (λ (x : Refused). x.place) f)
 
-refused_done : {X : Type 0} {w : Refusal} {p n : ℕ} → Err (refusal_at w p) ≡ Ok n → X
+refused_done : {X : Type 0} {w : Refused} {n : ℕ} → Err w ≡ Ok n → X
 refused_done e = never (cc)
 
-done_one : {m n : ℕ} → Ok m ≡ Ok n → m ≡ n
+done_one : {m n : ℕ} → ◌≡◌ {A = Outcome} (Ok m) (Ok n) → m ≡ n
 done_one e = cc
 
-done_refused : {X : Type 0} {w : Refusal} {p n : ℕ} → Ok n ≡ Err (refusal_at w p) → X
+done_refused : {X : Type 0} {w : Refused} {n : ℕ} → Ok n ≡ Err w → X
 done_refused e = never (cc)
 
 module _ (s : List ℕ) (allowance : ℤ) (enough : Bool) (t : List ℕ) where

@@ -1,10 +1,8 @@
 -- A master that may run, and what is judged before anything runs: for contracts of inner functions alone. Assumes nothing.
-use Rattle.std.specs.Prelude.{Ok, Err}
-use Rattle.tokens.specs.Refusal.{refusal_at}
-use Rattle.std.specs.Prelude.{ℕ, ◌+◌, ◌≤◌, ◌≡◌, Bool, true, List, [], ℤ, length, get_or}
+use Rattle.std.specs.Prelude.{Ok, Err, ℕ, ◌+◌, ◌≤◌, ◌≡◌, Bool, true, List, [], ℤ, length, get_or}
+use Rattle.tokens.specs.Refusal.{refusal_at, Outcome}
 use Rattle.tokens.specs.Format.{longest}
 use Rattle.tokens.specs.declared.Refusal.{Refusal}
-use Rattle.tokens.specs.Refusal.{Outcome}
 use Rattle.machine.specs.Promise.{Verdict, halted, allowed, admitted}
 use Rattle.machine.specs.Readable.{Whole}
 use Rattle.skeleton.specs.Spans.{Placed}

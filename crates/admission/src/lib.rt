@@ -8,8 +8,7 @@ ghost use Rattle.std.specs.Int.Signed.{le_z};
 ghost use Rattle.machine.specs.Limits.{most_pages, scratch_size, rows_size, sections_size};
 ghost use Rattle.admission.specs.Judged.{Admitted};
 
-use tokens::Outcome;
-use tokens::refusals::refused;
+use tokens::{Outcome, Refusal};
 
 // The most steps that may be allowed.
 const MOST_STEPS: i64 = 1000000;
@@ -54,13 +53,13 @@ pub fn admit(s: &[u8], allowance: i64, enough: bool, places: &mut [usize]) -> Ou
     ensures { Admitted s.now allowance enough places.new result }
 {
     if tokens::header::LONGEST < s.len() {
-        return refused(tokens::Refusal::TooLong, 0);
+        return Err(Refusal::TooLong.met_at(0));
     }
     if !enough {
-        return refused(tokens::Refusal::TableTooShort, 0);
+        return Err(Refusal::TableTooShort.met_at(0));
     }
     if !arguments::within(allowance, 1, MOST_STEPS) {
-        return refused(tokens::Refusal::BadAllowance, 0);
+        return Err(Refusal::BadAllowance.met_at(0));
     }
     skeleton::pages::survey(s, places)
 }
