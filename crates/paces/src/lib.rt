@@ -137,10 +137,9 @@ pub fn pace<'a>(
 {
     let c = contexts::bodies::running(w, r.depth);
     let b = origins::bytes_of(pre, body, c.origin);
-    let x = literals::reading::bare_operator(b, table::words::size(c.start));
-    if x.number == 0 {
+    let Some(x) = literals::reading::bare_operator(b, table::words::size(c.start)) else {
         return afresh(pace_noting(w, afresh(r), pre, body, early, notes));
-    }
+    };
     let s = contexts::bodies::begin(w, r, table::words::word(x.next));
     let p = operator(w, s, pre, body, x.number);
     if p.ok {

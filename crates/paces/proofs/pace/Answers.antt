@@ -10,21 +10,21 @@ use Rattle.paces.proofs.pace.Goals as goal
 pub pace_noting-requires : goal.pace_noting-requires
 pace_noting-requires c = rw c.afresh.ensures c.requires
 
-pub returns-then-x-eq0 : goal.returns-then-x-eq0
-returns-then-x-eq0 c =
-    (stepped_same c.afresh.ensures c.afresh-then-x-eq0.ensures c.pace_noting.ensures.0, c.pace_noting.ensures.1)
+pub returns-in_default : goal.returns-in_default
+returns-in_default c =
+    (stepped_same c.afresh.ensures c.afresh-in_default.ensures c.pace_noting.ensures.0, c.pace_noting.ensures.1)
 
 pub word-requires : goal.word-requires
 word-requires c =
-    omega (arith, c.bare_operator-x.ensures.inside c.if-x-eq0.false, ends_fit _ _ _ c.running-c.result.origin c.bytes_of-b.ensures c.requires.4)
+    omega (arith, c.in-Some.ensures.inside, ends_fit _ _ _ c.running-c.result.origin c.bytes_of-b.ensures c.requires.4)
 
 pub returns-then-p : goal.returns-then-p
 returns-then-p c =
-    (pace_settles _ _ (attempted (ready_now _ _ _ c.running-c.result _ c.requires.0 c.requires.1 c.requires.2 c.requires.3 c.running-c.ensures c.bytes_of-b.ensures c.size.ensures.0) _ _ c.word.ensures c.begin-s.ensures _ (c.bare_operator-x.ensures.there c.if-x-eq0.false) c.operator-p.ensures) c.if-p.true (done_same c.afresh-then-p.ensures c.settle.ensures), c.requires.5)
+    (pace_settles _ _ (attempted (ready_now _ _ _ c.running-c.result _ c.requires.0 c.requires.1 c.requires.2 c.requires.3 c.running-c.ensures c.bytes_of-b.ensures c.size.ensures.0) _ _ c.word.ensures c.begin-s.ensures _ c.in-Some.ensures.there c.operator-p.ensures) c.if-p.true (done_same c.afresh-then-p.ensures c.settle.ensures), c.requires.5)
 
 pub fault-requires : goal.fault-requires
 fault-requires c = faults _ c.begin-s.ensures c.operator-p.ensures c.if-p.false
 
 pub returns : goal.returns
 returns c =
-    (pace_faults _ _ (attempted (ready_now _ _ _ c.running-c.result _ c.requires.0 c.requires.1 c.requires.2 c.requires.3 c.running-c.ensures c.bytes_of-b.ensures c.size.ensures.0) _ _ c.word.ensures c.begin-s.ensures _ (c.bare_operator-x.ensures.there c.if-x-eq0.false) c.operator-p.ensures) c.if-p.false (done_same c.afresh-2.ensures c.fault.ensures), c.requires.5)
+    (pace_faults _ _ (attempted (ready_now _ _ _ c.running-c.result _ c.requires.0 c.requires.1 c.requires.2 c.requires.3 c.running-c.ensures c.bytes_of-b.ensures c.size.ensures.0) _ _ c.word.ensures c.begin-s.ensures _ c.in-Some.ensures.there c.operator-p.ensures) c.if-p.false (done_same c.afresh-2.ensures c.fault.ensures), c.requires.5)
