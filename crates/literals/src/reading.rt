@@ -47,26 +47,15 @@ fn holding(b: &[u8], n: u16, next: usize, memo: &mut [u32]) -> Due
     found(b, literal, end)
 }
 
-// The operator n, which ends at `next` and holds no body.
-fn bodiless(b: &[u8], role: Role, n: u16, next: usize) -> Due
-    requires { (role ≡ Holds → ⊥) × (role ≡ role_of n) }
-    ensures { Is (operator_by (role_of n) b.now n next) result }
-{
-    match role {
-        Role::Plain => found(b, Literal::Plain { number: n }, next),
-        _ => nothing(b),
-    }
-}
-
 // The operator n, which ends at `next`.
 fn operator(b: &[u8], n: u16, next: usize, memo: &mut [u32]) -> Due
     requires { (length b.now ≤ 16777215) × Noted b.now memo.old × (role_of n ≡ Holds → BodyEnds b.now next) }
     ensures { Is (operator_by (role_of n) b.now n next) result × Noted b.now memo.new }
 {
-    let role = nesting::roles::role_of(n);
-    match role {
+    match nesting::roles::role_of(n) {
+        Role::Plain => found(b, Literal::Plain { number: n }, next),
         Role::Holds => holding(b, n, next, memo),
-        _ => bodiless(b, role, n, next),
+        _ => nothing(b),
     }
 }
 
