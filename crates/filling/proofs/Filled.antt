@@ -57,7 +57,8 @@ whole_read : (t : Result Read Refused) → Whole t → IsOk t
 whole_read (Ok t) w = refl
 whole_read (Err w) v = absurd v
 
-on_above : (s : List ℕ) (at : ℕ) (ts : List Token) (t : Result Read Refused) (more : ℕ → List Token → Got) → ((n : ℕ) (us : List Token) → Above us (more n us)) → Above ts (on_read s at ts t more)
+on_above : (s : List ℕ) (at : ℕ) (ts : List Token) (t : Result Read Refused) (more : ℕ → List Token → Got)
+    → ((n : ℕ) (us : List Token) → Above us (more n us)) → Above ts (on_read s at ts t more)
 unfolding on_read
 on_above s at ts t more f =
     by_whole t

@@ -90,7 +90,8 @@ module _ {s : List ℕ} {at : ℕ} {t : Result Read Refused} {p o : ℕ} {list t
   unfolding added
   number_room {value} e = (one_room (number value) (rw e)).0
 
-  pub number_put : {value : numbers.Number} {next : ℕ} → t ≡ Ok (Number value next) → {list' : List ℕ} → list' ≡ sets list p (four_words 1 (of_z w32 value.num) value.den) → Put s at t p o list list' text text (record { at = next; p = p + 16; o = o + 0 })
+  pub number_put : {value : numbers.Number} {next : ℕ} → t ≡ Ok (Number value next) → {list' : List ℕ}
+      → list' ≡ sets list p (four_words 1 (of_z w32 value.num) value.den) → Put s at t p o list list' text text (record { at = next; p = p + 16; o = o + 0 })
   unfolding added text_of words_of
   number_put {value} {next} e {list'} l = made list' text (number value) next (o + 0) (rw e) (rw e) l refl refl
 
@@ -98,7 +99,8 @@ module _ {s : List ℕ} {at : ℕ} {t : Result Read Refused} {p o : ℕ} {list t
   unfolding added
   operator_room {n} e = (one_room (operator n) (rw e)).0
 
-  pub operator_put : {n next : ℕ} → t ≡ Ok (Operator n next) → {list' : List ℕ} → list' ≡ sets list p (four_words 4 n 0) → Put s at t p o list list' text text (record { at = next; p = p + 16; o = o + 0 })
+  pub operator_put : {n next : ℕ} → t ≡ Ok (Operator n next) → {list' : List ℕ} → list' ≡ sets list p (four_words 4 n 0)
+      → Put s at t p o list list' text text (record { at = next; p = p + 16; o = o + 0 })
   unfolding added text_of words_of
   operator_put {n} {next} e {list'} l = made list' text (operator n) next (o + 0) (rw e) (rw e) l refl refl
 

@@ -76,11 +76,16 @@ Steps s at t (Err w) = t ≡ Err w
 
 pub steps : (s : List ℕ) (at : ℕ) (t : Result Read Refused) → Told s at t → Steps s at t (step_of t)
 unfolding added texts_of text_of text_token shown
-steps s at (Ok (Number value next)) k = record { is_whole = tt; to_next = refl; adds = refl; text = refl; few = omega arith; later = omega (arith, k.1.0); inside = k.1.1 }
-steps s at (Ok (Identifier len next)) k = record { is_whole = tt; to_next = refl; adds = refl; text = texts_length true k; few = omega arith; later = k.longer; inside = k.inside }
-steps s at (Ok (String count next)) k = record { is_whole = tt; to_next = refl; adds = refl; text = texts_length false k; few = omega arith; later = k.longer; inside = k.inside }
-steps s at (Ok (Operator n next)) k = record { is_whole = tt; to_next = refl; adds = refl; text = refl; few = omega arith; later = omega (arith, k.1.0); inside = k.1.1 }
-steps s at (Ok (Comment next)) k = record { is_whole = tt; to_next = refl; adds = refl; text = refl; few = omega arith; later = omega (arith, k.0); inside = k.1 }
+steps s at (Ok (Number value next)) k =
+    record { is_whole = tt; to_next = refl; adds = refl; text = refl; few = omega arith; later = omega (arith, k.1.0); inside = k.1.1 }
+steps s at (Ok (Identifier len next)) k =
+    record { is_whole = tt; to_next = refl; adds = refl; text = texts_length true k; few = omega arith; later = k.longer; inside = k.inside }
+steps s at (Ok (String count next)) k =
+    record { is_whole = tt; to_next = refl; adds = refl; text = texts_length false k; few = omega arith; later = k.longer; inside = k.inside }
+steps s at (Ok (Operator n next)) k =
+    record { is_whole = tt; to_next = refl; adds = refl; text = refl; few = omega arith; later = omega (arith, k.1.0); inside = k.1.1 }
+steps s at (Ok (Comment next)) k =
+    record { is_whole = tt; to_next = refl; adds = refl; text = refl; few = omega arith; later = omega (arith, k.0); inside = k.1 }
 steps s at (Err w) k = refl
 
 -- a token ends past its text
@@ -91,7 +96,8 @@ reaches s at t k w = by_step (step_of t) (steps s at t k)
     by_step (Ok p) g = omega (arith, g.later, g.to_next, g.text)
     by_step (Err why) g = absurd (subst Whole g w)
 
-pub on_go : (s : List ℕ) (at : ℕ) (ts : List Token) (t : Result Read Refused) (more : ℕ → List Token → Got) → Whole t → on_read s at ts t more ≡ more (next_of at t) (ts ++ added s at t)
+pub on_go : (s : List ℕ) (at : ℕ) (ts : List Token) (t : Result Read Refused) (more : ℕ → List Token → Got) → Whole t
+    → on_read s at ts t more ≡ more (next_of at t) (ts ++ added s at t)
 unfolding on_read added
 on_go s at ts (Ok (Number value next)) more w = refl
 on_go s at ts (Ok (Identifier len next)) more w = refl

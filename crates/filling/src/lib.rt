@@ -131,8 +131,10 @@ fn put_text(
     text: &mut [u8],
     place: Place,
 )
-    requires { (place.at < length s.now) × (place.p + 16 ≤ length list.old) × (place.o < 2 ^ 32) × (len < 2 ^ 32) × FitsText (length text.old) place.o (joined_at s.now place.at) }
-    ensures { (list.new ≡ sets list.old place.p (four_words kind place.o len)) × (text.new ≡ sets text.old place.o (shown lower (data_of (joined_at s.now place.at)))) }
+    requires { (place.at < length s.now) × (place.p + 16 ≤ length list.old) × (place.o < 2 ^ 32) × (len < 2 ^ 32)
+        × FitsText (length text.old) place.o (joined_at s.now place.at) }
+    ensures { (list.new ≡ sets list.old place.p (four_words kind place.o len))
+        × (text.new ≡ sets text.old place.o (shown lower (data_of (joined_at s.now place.at)))) }
 {
     put_words(list, place.p, kind, place.o as u32, len as u32);
     copy_text(lower, s, place.at, text, place.o);

@@ -123,7 +123,8 @@ operator_large x a b c h = judged_right x (eqb b 0 && eqb c 0) (operator a) (ltb
 pub operator_here : (x : List ℕ) (a b c : ℕ) → a ≤ 8191 → b ≡ 0 → c ≡ 0 → Judged x (entry (eqb b 0 && eqb c 0) (operator a)) (Some (Operator a))
 unfolding entry_is writable
 operator_here x a b c h e f =
-    judged_yes x (eqb b 0 && eqb c 0) (operator a) (Some (Operator a)) (ltb a 8192) (rw (e, f)) refl (lt-ltb a 8192 (omega arith)) (record { is = refl; good = omega arith })
+    judged_yes x (eqb b 0 && eqb c 0) (operator a) (Some (Operator a)) (ltb a 8192) (rw (e, f)) refl (lt-ltb a 8192 (omega arith))
+    (record { is = refl; good = omega arith })
 
 -- the entry by its kind
 module _ (x : List ℕ) (k a b c : ℕ) where

@@ -66,7 +66,8 @@ unfolding measured_of
 fits_there (all ts) n len e h k = let f = small (all ts) len e h ts refl in omega arith
 fits_there (wrong j) n len e h k = clash (refusal_at NotWritable j) len e
 
-ends_done : (J : Listed) (out out' : List ℕ) (len : ℕ) → Ok len ≡ measured_of J → len ≤ 16777215 → len ≤ length out → out' ≡ sets out 0 (written_of (tokens_in J)) → Ends J out (Ok len) out'
+ends_done : (J : Listed) (out out' : List ℕ) (len : ℕ) → Ok len ≡ measured_of J → len ≤ 16777215 → len ≤ length out
+    → out' ≡ sets out 0 (written_of (tokens_in J)) → Ends J out (Ok len) out'
 unfolding measured_of write_answer write_leaves tokens_in over
 ends_done (all ts) out out' len e h k m =
     let f = small (all ts) len e h ts refl in
@@ -90,5 +91,6 @@ module _ (l x out : List ℕ) where
   pub writes_full : (len : ℕ) → Ok len ≡ measured_of (listed l x) → len ≤ 16777215 → length out < len → Writes l x out out (Err (refusal_at NoRoom 0))
   writes_full len e h k = promise out (Err (refusal_at NoRoom 0)) (ends_full (listed l x) out len e h k)
 
-  pub writes_done : (out' : List ℕ) (len : ℕ) → Ok len ≡ measured_of (listed l x) → len ≤ 16777215 → len ≤ length out → out' ≡ sets out 0 (written_of (tokens_in (listed l x))) → Writes l x out out' (Ok len)
+  pub writes_done : (out' : List ℕ) (len : ℕ) → Ok len ≡ measured_of (listed l x) → len ≤ 16777215 → len ≤ length out
+      → out' ≡ sets out 0 (written_of (tokens_in (listed l x))) → Writes l x out out' (Ok len)
   writes_done out' len e h k m = promise out' (Ok len) (ends_done (listed l x) out out' len e h k m)

@@ -30,7 +30,8 @@ raised_back z h =
     let n = pos-nat_abs (z +ℤ pos 4000) (subst (λ (b : Bool). T b) (sym t.0) tt) in
     (ltb-true (raised z) 32768 t.1, ap (λ (y : ℤ). y -ℤ pos 4000) n ∙ +ℤ-neg_ℤ_cancel z (pos 4000))
 
-short_read : (p r : List ℕ) (v : ℕ) → v < 32768 → token_at (p ++ (v / 256) ∷ (v % 256) ∷ r) (length p) ≡ Ok (R.Number (record { num = pos v -ℤ pos 4000; den = 1 }) (length p + 2))
+short_read : (p r : List ℕ) (v : ℕ) → v < 32768
+    → token_at (p ++ (v / 256) ∷ (v % 256) ∷ r) (length p) ≡ Ok (R.Number (record { num = pos v -ℤ pos 4000; den = 1 }) (length p + 2))
 unfolding token_at token_of
 short_read p r v h =
     let b : ℕ = v / 256 in
@@ -62,7 +63,8 @@ rational_in_lem k y z h i =
 halves_length : (k : ℕ) (y z : ℤ) → length (integer_bytes k y ++ integer_bytes k z) ≡ k + k
 halves_length k y z = length-append (integer_bytes k y) (integer_bytes k z) ∙ rw (bytes_length k (complement_of k y), bytes_length k (complement_of k z))
 
-judged_integer : (at next k : ℕ) (a : Number) → is_number a ≡ true → a.den ≡ 1 → Held a.num k → judged integer_type at (integer_bytes k a.num) next ≡ Ok (R.Number a next)
+judged_integer : (at next k : ℕ) (a : Number) → is_number a ≡ true → a.den ≡ 1 → Held a.num k
+    → judged integer_type at (integer_bytes k a.num) next ≡ Ok (R.Number a next)
 unfolding judged number_read
 judged_integer at next k a w one h =
     let e : ratio_of a.num (pos 1) ≡ Ok a = ap (λ (d : ℕ). ratio_of a.num (pos d)) (sym one) ∙ ratio_number a w in
@@ -105,7 +107,8 @@ module _ (a : Number) (w : is_number a ≡ true) where
         by_test (is_short z)
         (λ h.
         let b = raised_back z h in
-        let e : Ok (R.Number (record { num = a.num; den = 1 }) (length p + 2)) ≡ Ok (R.Number a (length p + 2)) = ap (λ (d : ℕ). Ok (R.Number (record { num = a.num; den = d }) (length p + 2))) (sym one) in
+        let e : Ok (R.Number (record { num = a.num; den = 1 }) (length p + 2)) ≡ Ok (R.Number a (length p + 2)) =
+        ap (λ (d : ℕ). Ok (R.Number (record { num = a.num; den = d }) (length p + 2))) (sym one) in
         rw (whole_short z h) (short_read p r (raised z) b.0 ∙ rw b.1 e))
         (λ h.
         let s = sequence_back p r integer_type (integer_bytes k z) (omega arith) (omega (arith, bytes_length k (complement_of k z), num_held.most)) last in

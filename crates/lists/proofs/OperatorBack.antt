@@ -41,7 +41,8 @@ long_back p r n h =
       e,
     )
 
-pub operator_back : (p r : List ℕ) (n : ℕ) → n < 8192 → token_at (p ++ (operator_bytes n ++ r)) (length p) ≡ Ok (Operator n (length p + length (operator_bytes n)))
+pub operator_back : (p r : List ℕ) (n : ℕ) → n < 8192
+    → token_at (p ++ (operator_bytes n ++ r)) (length p) ≡ Ok (Operator n (length p + length (operator_bytes n)))
 operator_back p r n h = split n 32 (λ g. rw (operator_short n g) (short_back p r n g)) (λ g. rw (operator_long n g) (long_back p r n h))
 
 pub operator_plain : (n : ℕ) (r : List ℕ) → n < 8192 → continued (get_or (operator_bytes n ++ r) 0 0) ≡ false

@@ -21,7 +21,8 @@ use Rattle.lists.proofs.ReadWrite.{written_length}
 
 -- ---- one more token
 
-on_item : (at : ℕ) (ts : List Token) (more : List Token → Listed) (x : List ℕ) (i : Item) → on_entry at ts (entry_is x (Some i)) more ≡ more (ts ++ entry_tokens (entry_is x (Some i)))
+on_item : (at : ℕ) (ts : List Token) (more : List Token → Listed) (x : List ℕ) (i : Item)
+    → on_entry at ts (entry_is x (Some i)) more ≡ more (ts ++ entry_tokens (entry_is x (Some i)))
 unfolding entry_is entry_tokens on_entry
 on_item at ts more x (Number a b) = refl
 on_item at ts more x (Identifier s n) = refl
@@ -107,7 +108,8 @@ module _ (l x : List ℕ) (at total : ℕ) (m : Measuring l x at total) where
     measuring_wrong j = rw (stopped l x (listed l x) at m.k m.ts m.before h j)
 
     -- the item i is judged there, and n is its size
-    pub measuring_on : (i : Item) → Judged x (entry_at l x at) (Some i) → (n : ℕ) → ((y : List ℕ) → GoodItem y (Some i) → n ≡ length (entry_bytes (entry_is y (Some i))))
+    pub measuring_on : (i : Item) → Judged x (entry_at l x at) (Some i) → (n : ℕ)
+        → ((y : List ℕ) → GoodItem y (Some i) → n ≡ length (entry_bytes (entry_is y (Some i))))
         → (t : ℕ) → (t ≡ capped (total + n)) × (t ≤ 16777216) → Measuring l x (at + 16) t
     measuring_on i j n f t c = record {
       k = m.k - 1;
@@ -180,7 +182,8 @@ module _ (l x out₀ out : List ℕ) (at o : ℕ) (m : Putting l x out₀ out at
         let a = within (listed l x) (length (written_of us)) n (subst (λ (J : Listed). Above (length (written_of us)) J) next.rest (above (m.k - 1) l x (at + 16) us)) f in
         (rw j.is (omega (arith, a, more_length m.ts (entry_at l x at), written_length m.ts, m.put.next, m.kept, g)), j.good)
 
-    pub putting_on : (out' : List ℕ) (r : ℕ) → Put out out' o (entry_bytes (entry_is x (Some i))) r → length out' ≡ length out → Putting l x out₀ out' (at + 16) r
+    pub putting_on : (out' : List ℕ) (r : ℕ) → Put out out' o (entry_bytes (entry_is x (Some i))) r → length out' ≡ length out
+        → Putting l x out₀ out' (at + 16) r
     putting_on out' r p g = record {
       k = m.k - 1;
       ts = m.ts ++ entry_tokens (entry_at l x at);

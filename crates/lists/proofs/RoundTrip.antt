@@ -39,10 +39,12 @@ module _ {l x out out' : List ℕ} {n : ℕ} (w : Writes l x out out' (Ok n)) wh
   pub tokens_back : (ts : List Token) × (listed l x ≡ all ts) × (all_writable ts ≡ true) × (read_list (take n out') ≡ got ts)
   tokens_back = let q = done_tokens w in let a = tokens_are q.0 q.1 q.2 q.3 q.4 in (q.0, q.1, a.0, a.1)
 
-  pub tables_back : {list list' text text' : List ℕ} {m : ℕ} → ReadsBack (take n out') list list' text text' (Ok m) → listed (take (16 * m) list') text' ≡ listed l x
+  pub tables_back : {list list' text text' : List ℕ} {m : ℕ} → ReadsBack (take n out') list list' text text' (Ok m)
+      → listed (take (16 * m) list') text' ≡ listed l x
   tables_back b = let q = done_tokens w in let a = tokens_are q.0 q.1 q.2 q.3 q.4 in read_same a.1 a.0 a.2 b ∙ sym q.1
 
-  pub answer_back : {ts : List Token} {list list' text text' : List ℕ} {r : Outcome} → listed l x ≡ all ts → holds ts (length list) (length text) ≡ true → ReadsBack (take n out') list list' text text' r → r ≡ Ok (length ts)
+  pub answer_back : {ts : List Token} {list list' text text' : List ℕ} {r : Outcome} → listed l x ≡ all ts → holds ts (length list) (length text) ≡ true
+      → ReadsBack (take n out') list list' text text' r → r ≡ Ok (length ts)
   answer_back {ts} e h b =
       let q = tokens_back in
       let f : all q.0 ≡ all ts = sym q.1 ∙ e in

@@ -34,13 +34,15 @@ pub read_write_tokens : {l x out out' : List ℕ} {n : ℕ} → Writes l x out o
 read_write_tokens w = tokens_back w
 
 -- THEOREM (demand 2). Into tables that are long enough they are read back, and the answer is the number of tokens.
-pub read_back_full : {l x out out' list list' text text' : List ℕ} {n : ℕ} {ts : List Token} {r : Outcome} → Writes l x out out' (Ok n) → listed l x ≡ all ts → holds ts (length list) (length text) ≡ true
+pub read_back_full : {l x out out' list list' text text' : List ℕ} {n : ℕ} {ts : List Token} {r : Outcome} → Writes l x out out' (Ok n) → listed l x ≡ all ts
+    → holds ts (length list) (length text) ≡ true
     → ReadsBack (take n out') list list' text text' r → r ≡ Ok (length ts)
 read_back_full w e h b = answer_back w e h b
 
 -- THEOREM (demand 2). A list of writable tokens for which there is room is written: its written form, and then the rest as found.
 pub write_full : {l x out out' : List ℕ} {ts : List Token} {r : Outcome} → listed l x ≡ all ts → length (written_of ts) ≤ length out → length (written_of ts) ≤ longest → Writes l x out out' r
-    → (r ≡ Ok (length (written_of ts))) × (take (length (written_of ts)) out' ≡ written_of ts) × (drop (length (written_of ts)) out' ≡ drop (length (written_of ts)) out)
+    → (r ≡ Ok (length (written_of ts))) × (take (length (written_of ts)) out' ≡ written_of ts)
+    × (drop (length (written_of ts)) out' ≡ drop (length (written_of ts)) out)
 write_full e a b w = written_full e a b w
 
 -- THEOREM (demand 2). And nothing else is.
@@ -61,5 +63,6 @@ pub write_kept : {l x out out' : List ℕ} {w : Refusal} {p : ℕ} → Writes l 
 write_kept w = refused_kept w
 
 -- THEOREM (demand 2). A refused `read_back` leaves both tables as found.
-pub read_back_kept : {s list list' text text' : List ℕ} {w : Refusal} {p : ℕ} → ReadsBack s list list' text text' (Err (refusal_at w p)) → (list' ≡ list) × (text' ≡ text)
+pub read_back_kept : {s list list' text text' : List ℕ} {w : Refusal} {p : ℕ} → ReadsBack s list list' text text' (Err (refusal_at w p))
+    → (list' ≡ list) × (text' ≡ text)
 read_back_kept b = unread_kept b

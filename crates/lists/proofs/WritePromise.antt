@@ -34,7 +34,8 @@ done_tokens {l} {x} {out} {out'} {n} w = done_is (listed l x) (length out) n w.a
 
 -- where there is room, the written form and then the rest as found
 pub written_full : {l x out out' : List ℕ} {r : Outcome} {ts : List Token} → listed l x ≡ all ts → length (written_of ts) ≤ length out → length (written_of ts) ≤ longest → Writes l x out out' r
-    → (r ≡ Ok (length (written_of ts))) × (take (length (written_of ts)) out' ≡ written_of ts) × (drop (length (written_of ts)) out' ≡ drop (length (written_of ts)) out)
+    → (r ≡ Ok (length (written_of ts))) × (take (length (written_of ts)) out' ≡ written_of ts)
+    × (drop (length (written_of ts)) out' ≡ drop (length (written_of ts)) out)
 unfolding write_answer write_leaves over
 written_full {l} {x} {out} {out'} {r} {ts} e a b w =
     let b₁ = written_of ts in

@@ -48,7 +48,13 @@ loop-at-smaller c =
 
 pub loop-at-preserved : goal.loop-at-preserved
 loop-at-preserved c =
-    let i = c.loop-at.invariant in let f : ℕ = c.in-Some.piece.start in (i.0 - 1, i.1 ++ slice f (f + c.in-Some.piece.len) c.args.s.now, copied_next (shows _) i.2 c.requires (here (goal.at.loop-at-preserved c).In-Some) c.put_part.auto.text c.put_part.ensures)
+    let i = c.loop-at.invariant in
+    let f : ℕ = c.in-Some.piece.start in (
+      i.0 - 1,
+      i.1 ++ slice f (f + c.in-Some.piece.len) c.args.s.now,
+      copied_next (shows _) i.2 c.requires (here (goal.at.loop-at-preserved c).In-Some)
+          c.put_part.auto.text c.put_part.ensures,
+    )
 
 pub shape_of-text : goal.shape_of-text
 shape_of-text c = c.loop-at.invariant.2.same

@@ -35,8 +35,13 @@ overflow_add-o c = omega (arith, (begun (goal.at.overflow_add-o c).After-unwrap-
 
 pub copy_from-requires : goal.copy_from-requires
 copy_from-requires c =
-    let a = c.args in let m = c.unwrap-piece.result.len in subst (λ (n : ℕ). FitsText n (a.o + m) (continuations a.s.now (c.unwrap-piece.result.start + m))) (sym c.put_part.auto.text) (begun (goal.at.copy_from-requires c).After-unwrap-piece).2
+    let a = c.args in
+    let m = c.unwrap-piece.result.len in
+    subst (λ (n : ℕ). FitsText n (a.o + m) (continuations a.s.now (c.unwrap-piece.result.start + m))) (sym c.put_part.auto.text)
+    (begun (goal.at.copy_from-requires c).After-unwrap-piece).2
 
 pub returns : goal.returns
 returns c =
-    let a = c.args in text_whole a.s.now a.at (length a.text.now) a.o c.requires.1 (here (goal.at.returns c).After-unwrap-piece) (shown a.lower) (shows a.lower) a.text.now c.put_part.ensures c.copy_from.ensures
+    let a = c.args in
+    text_whole a.s.now a.at (length a.text.now) a.o c.requires.1 (here (goal.at.returns c).After-unwrap-piece) (shown a.lower) (shows a.lower) a.text.now
+    c.put_part.ensures c.copy_from.ensures

@@ -14,10 +14,12 @@ use Rattle.filling.proofs.fill_tables.Goals.{After-put_read-place}
 
 turned : (c : After-put_read-place) →
     let a = c.args in let o = c.loop-place in let i = o.invariant in let r = c.put_read-place.result in
-    Filled (tokens_in a.s.now) a.s.now a.list.now c.put_read-place.new.list a.text.now c.put_read-place.new.text (i.0 - 1) r.at r.p r.o (i.1 ++ added a.s.now o.place.at (Ok c.unwrap-token.result)) × (o.place.at < r.at)
+    Filled (tokens_in a.s.now) a.s.now a.list.now c.put_read-place.new.list a.text.now c.put_read-place.new.text (i.0 - 1) r.at r.p r.o
+    (i.1 ++ added a.s.now o.place.at (Ok c.unwrap-token.result)) × (o.place.at < r.at)
 turned c =
     let told = token_says c.args.s.now c.loop-place.place.at (λ i. omega (arith, c.type_inv.s i)) (omega arith) in
-    filled_next c.loop-place.invariant.2 c.requires.0 c.requires.1 (omega arith) (sym c.unwrap-token.ensures ∙ c.read_token.ensures) told c.put_read-place.ensures c.put_read-place.auto.list c.put_read-place.auto.text
+    filled_next c.loop-place.invariant.2 c.requires.0 c.requires.1 (omega arith) (sym c.unwrap-token.ensures ∙ c.read_token.ensures) told
+    c.put_read-place.ensures c.put_read-place.auto.list c.put_read-place.auto.text
 
 pub loop-place-init : goal.loop-place-init
 unfolding list_of texts_of
@@ -38,7 +40,11 @@ loop-place-smaller c = omega (arith, (turned (goal.at.loop-place-smaller c).Afte
 
 pub loop-place-preserved : goal.loop-place-preserved
 loop-place-preserved c =
-    let o = c.loop-place in (o.invariant.0 - 1, o.invariant.1 ++ added c.args.s.now o.place.at (Ok c.unwrap-token.result), (turned (goal.at.loop-place-preserved c).After-put_read-place).0)
+    let o = c.loop-place in (
+      o.invariant.0 - 1,
+      o.invariant.1 ++ added c.args.s.now o.place.at (Ok c.unwrap-token.result),
+      (turned (goal.at.loop-place-preserved c).After-put_read-place).0,
+    )
 
 pub shape_of-list : goal.shape_of-list
 shape_of-list c = c.loop-place.invariant.2.list_same

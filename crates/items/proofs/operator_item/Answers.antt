@@ -5,7 +5,8 @@ use Rattle.items.specs.Tokens.{operator}
 use lib.Dec.{eqb}
 use borrow.Author.Tests.{ne_eqb}
 use Rattle.items.proofs.operator_item.Goals as goal
-use Rattle.items.proofs.operator_item.Goals.{then-b-ne0-via-then-b-ne0, then-b-ne0-via-else-b-ne0+then-c-ne0, then-b-ne0-via-else-b-ne0+else-c-ne0+then-a-gt8191}
+use Rattle.items.proofs.operator_item.Goals.{then-b-ne0-via-then-b-ne0, then-b-ne0-via-else-b-ne0+then-c-ne0}
+use Rattle.items.proofs.operator_item.Goals.{then-b-ne0-via-else-b-ne0+else-c-ne0+then-a-gt8191}
 
 pub returns-then-b-ne0 : goal.returns-then-b-ne0
 returns-then-b-ne0 c =

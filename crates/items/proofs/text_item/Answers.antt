@@ -5,7 +5,8 @@ use Rattle.items.specs.Judged.{text_token}
 use native.Mathlib.Omega.{arith}
 use Rattle.items.proofs.Judging.{judged_left, judged_right, judged_yes, rest_bad, start_bad, length_bad, end_bad, place_good}
 use Rattle.items.proofs.text_item.Goals as goal
-use Rattle.items.proofs.text_item.Goals.{then-c-ne0-via-then-c-ne0, then-c-ne0-via-else-c-ne0+then-a-gt2147483647, then-c-ne0-via-else-c-ne0+else-a-gt2147483647+then-b-gt2147483647}
+use Rattle.items.proofs.text_item.Goals.{then-c-ne0-via-then-c-ne0, then-c-ne0-via-else-c-ne0+then-a-gt2147483647}
+use Rattle.items.proofs.text_item.Goals.{then-c-ne0-via-else-c-ne0+else-a-gt2147483647+then-b-gt2147483647}
 use Rattle.items.proofs.text_item.Goals.{else-start-len-via-then-start-len+else-is_text, else-start-len-via-else-start-len}
 
 pub returns-then-c-ne0 : goal.returns-then-c-ne0
@@ -18,7 +19,10 @@ returns-then-c-ne0 c =
 
 pub returns-then-is_text : goal.returns-then-is_text
 returns-then-is_text c =
-    let a = c.args in judged_yes a.x.now _ (text_token a.named (slice a.a (a.a + a.b) a.x.now)) _ _ (place_good a.x.now a.a a.b a.c c.if-c-ne0.false c.if-a-gt2147483647.false c.if-b-gt2147483647.false c.if-start-len.true) c.is_text.ensures c.if-is_text.true (c.text_at.ensures a.x.now (c.if-start-len.true, omega arith))
+    let a = c.args in
+    judged_yes a.x.now _ (text_token a.named (slice a.a (a.a + a.b) a.x.now)) _ _
+    (place_good a.x.now a.a a.b a.c c.if-c-ne0.false c.if-a-gt2147483647.false c.if-b-gt2147483647.false c.if-start-len.true)
+    c.is_text.ensures c.if-is_text.true (c.text_at.ensures a.x.now (c.if-start-len.true, omega arith))
 
 pub returns : goal.returns
 returns c =

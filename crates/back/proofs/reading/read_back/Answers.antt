@@ -19,7 +19,10 @@ returns-then-not-begins c =
 
 pub returns-in_err-survey : goal.returns-in_err-survey
 returns-in_err-survey c =
-    let a = c.args in let p = err_from_is_err_and c.from_residual.result c.from_residual.ensures.1 in rw (p.1, p.2) (end_broken a.s.now a.list.now a.text.now (omega arith) (sym c.begins.ensures ∙ c.if-not-begins.false) (sym c.in_err-survey.was ∙ c.survey_of.ensures))
+    let a = c.args in
+    let p = err_from_is_err_and c.from_residual.result c.from_residual.ensures.1 in
+    rw (p.1, p.2) (end_broken a.s.now a.list.now a.text.now (omega arith) (sym c.begins.ensures ∙ c.if-not-begins.false)
+    (sym c.in_err-survey.was ∙ c.survey_of.ensures))
 
 pub returns-then-list-survey : goal.returns-then-list-survey
 returns-then-list-survey c =
@@ -30,7 +33,11 @@ returns-then-list-survey c =
 
 pub fill_tables-requires : goal.fill_tables-requires
 fill_tables-requires c =
-    let a = c.args in (omega arith, end_holds a.s.now a.list.now a.text.now (sounds (goal.at.fill_tables-requires c).In_ok-survey) (omega (arith, c.if-list-survey.false)) c.if-text-survey.false)
+    let a = c.args in (
+      omega arith,
+      end_holds a.s.now a.list.now a.text.now (sounds (goal.at.fill_tables-requires c).In_ok-survey) (omega (arith, c.if-list-survey.false))
+          c.if-text-survey.false,
+    )
 
 pub returns : goal.returns
 returns c =

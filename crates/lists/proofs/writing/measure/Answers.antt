@@ -19,7 +19,9 @@ item_at-requires c = omega arith
 
 pub returns-in_default : goal.returns-in_default
 returns-in_default c =
-    let a = c.args in let o = c.loop-at in ap Err c.met_at.ensures ∙ measuring_wrong a.list.now a.text.now o.at o.total o.invariant (omega arith) (rw c.in_default.is at c.item_at.ensures)
+    let a = c.args in
+    let o = c.loop-at in
+    ap Err c.met_at.ensures ∙ measuring_wrong a.list.now a.text.now o.at o.total o.invariant (omega arith) (rw c.in_default.is at c.item_at.ensures)
 
 pub size_of-requires : goal.size_of-requires
 size_of-requires c = small_item c.args.text.now c.in-Some.item (judged (goal.at.size_of-requires c).In-Some).good
@@ -35,7 +37,10 @@ loop-at-smaller c = omega arith
 
 pub loop-at-preserved : goal.loop-at-preserved
 loop-at-preserved c =
-    let a = c.args in let o = c.loop-at in measuring_on a.list.now a.text.now o.at o.total o.invariant (omega arith) _ (judged (goal.at.loop-at-preserved c).In-Some) _ c.size_of.ensures.0 _ c.cap-total.ensures
+    let a = c.args in
+    let o = c.loop-at in
+    measuring_on a.list.now a.text.now o.at o.total o.invariant (omega arith) _ (judged (goal.at.loop-at-preserved c).In-Some) _ c.size_of.ensures.0 _
+    c.cap-total.ensures
 
 pub returns : goal.returns
 returns c =

@@ -23,11 +23,17 @@ item_at-requires c = omega arith
 
 pub unwrap-item-requires : goal.unwrap-item-requires
 unwrap-item-requires c =
-    let a = c.args in let o = c.loop-at in putting_some a.list.now a.text.now c.copy.new.out o.out o.at o.o o.invariant (omega arith) (length a.out.now) c.requires _ c.item_at.ensures
+    let a = c.args in
+    let o = c.loop-at in
+    putting_some a.list.now a.text.now c.copy.new.out o.out o.at o.o o.invariant (omega arith) (length a.out.now) c.requires _ c.item_at.ensures
 
 pub put_item-o-requires : goal.put_item-o-requires
 put_item-o-requires c =
-    let a = c.args in let o = c.loop-at in let j = judged (goal.at.put_item-o-requires c).After-unwrap-item in putting_room a.list.now a.text.now c.copy.new.out o.out o.at o.o o.invariant (omega arith) (length a.out.now) c.requires c.unwrap-item.result j (omega (arith, c.copy.auto))
+    let a = c.args in
+    let o = c.loop-at in
+    let j = judged (goal.at.put_item-o-requires c).After-unwrap-item in
+    putting_room a.list.now a.text.now c.copy.new.out o.out o.at o.o o.invariant (omega arith) (length a.out.now) c.requires c.unwrap-item.result j
+    (omega (arith, c.copy.auto))
 
 pub overflow_add-at : goal.overflow_add-at
 overflow_add-at c = omega arith
@@ -37,7 +43,11 @@ loop-at-smaller c = omega arith
 
 pub loop-at-preserved : goal.loop-at-preserved
 loop-at-preserved c =
-    let a = c.args in let o = c.loop-at in let j = judged (goal.at.loop-at-preserved c).After-unwrap-item in putting_on a.list.now a.text.now c.copy.new.out o.out o.at o.o o.invariant (omega arith) (length a.out.now) c.requires c.unwrap-item.result j _ _ c.put_item-o.ensures (omega (arith, c.put_item-o.auto))
+    let a = c.args in
+    let o = c.loop-at in
+    let j = judged (goal.at.loop-at-preserved c).After-unwrap-item in
+    putting_on a.list.now a.text.now c.copy.new.out o.out o.at o.o o.invariant (omega arith) (length a.out.now) c.requires c.unwrap-item.result j _ _
+    c.put_item-o.ensures (omega (arith, c.put_item-o.auto))
 
 pub shape_of-out : goal.shape_of-out
 shape_of-out c = omega (arith, c.loop-at.invariant.kept, c.copy.auto)

@@ -13,7 +13,9 @@ measured c = sym c.in_ok-len.was ∙ c.measure.ensures
 
 pub returns-in_err-len : goal.returns-in_err-len
 returns-in_err-len c =
-    let a = c.args in let p = err_from_is_err_and c.from_residual.result c.from_residual.ensures.1 in rw (p.1, p.2) (writes_wrong a.list.now a.text.now a.out.now _ (sym c.in_err-len.was ∙ c.measure.ensures))
+    let a = c.args in
+    let p = err_from_is_err_and c.from_residual.result c.from_residual.ensures.1 in
+    rw (p.1, p.2) (writes_wrong a.list.now a.text.now a.out.now _ (sym c.in_err-len.was ∙ c.measure.ensures))
 
 pub returns-then-len-gt-LONGEST : goal.returns-then-len-gt-LONGEST
 returns-then-len-gt-LONGEST c =
@@ -24,8 +26,11 @@ returns-then-len-gt-LONGEST c =
 
 pub put_all-requires : goal.put_all-requires
 put_all-requires c =
-    let a = c.args in fits_there (listed a.list.now a.text.now) (length a.out.now) _ (measured (goal.at.put_all-requires c).In_ok-len) c.if-len-gt-LONGEST.false c.if-out-len.false
+    let a = c.args in
+    fits_there (listed a.list.now a.text.now) (length a.out.now) _ (measured (goal.at.put_all-requires c).In_ok-len) c.if-len-gt-LONGEST.false
+    c.if-out-len.false
 
 pub returns : goal.returns
 returns c =
-    let a = c.args in writes_done a.list.now a.text.now a.out.now _ _ (measured (goal.at.returns c).In_ok-len) c.if-len-gt-LONGEST.false c.if-out-len.false c.put_all.ensures
+    let a = c.args in
+    writes_done a.list.now a.text.now a.out.now _ _ (measured (goal.at.returns c).In_ok-len) c.if-len-gt-LONGEST.false c.if-out-len.false c.put_all.ensures
