@@ -5,7 +5,7 @@ ghost use Rattle.std.specs.Int.Signed.{le_z};
 pub fn within(x: i64, low: i64, high: i64) -> bool
     ensures { result ≡ (le_z low x && le_z x high) }
 {
-    low <= x && x <= high
+    (low..=high).contains(&x)
 }
 
 // One that is not below zero, as a count.

@@ -33,10 +33,7 @@ pub fn room_to_run(scratch: usize, rows: usize) -> bool
 pub fn room_to_reprint(scratch: usize, rows: usize, sections: usize) -> bool
     ensures { result ≡ (leb scratch_size scratch && (leb rows_size rows && leb sections_size sections)) }
 {
-    if scratch < SCRATCH {
-        return false;
-    }
-    ROWS <= rows && SECTIONS <= sections
+    room_to_run(scratch, rows) && SECTIONS <= sections
 }
 
 // Whether a master of so many pages has that page; page 0 is the preamble.
