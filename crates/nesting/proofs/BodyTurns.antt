@@ -230,6 +230,14 @@ module _ (s : List ℕ) (p : ℕ) (f : Form) where
   pub passed_due : (n : ℕ) (q x : Result ℕ Refused) → f ≡ form.Sequence → Shows s p f → q ≡ pass_of (token_at s p) → q ≡ x → stopped_by p x ≡ due_by n p (token_at s p)
   passed_due n q x e h g k = sym (not_due n p (token_at s p) (no_operator e h) ∙ ap (stopped_by p) (sym g ∙ k))
 
+-- a short number
+pub not_due_there : (s : List ℕ) (p : ℕ) (f : Form) (n : ℕ) → Shows s p f → ((m next : ℕ) → f ≡ form.Operator m next → ⊥) → (f ≡ form.Sequence → ⊥)
+    → Err (refusal_at NotAllowed p) ≡ due_by n p (token_at s p)
+unfolding due_by
+not_due_there s p (form.Number raw next) n h g k = rw (number_shown s p _ raw next refl h)
+not_due_there s p (form.Operator m next) n h g k = absurd (g m next refl)
+not_due_there s p form.Sequence n h g k = absurd (k refl)
+
 -- ---- a body
 
 pub due_there : (n : ℕ) (s : List ℕ) (at q : ℕ) (w : Result ℕ Refused) → q ≡ solid s at → w ≡ due_by n q (token_at s q) → due n s at ≡ w

@@ -59,12 +59,11 @@ pub fn due_here(n: u16, s: &[u8], at: usize) -> Result<usize, Refused>
     };
     match form {
         Form::Operator { number, next } if number == n => Ok(next),
-        Form::Operator { .. } => Err(Refusal::NotAllowed.met_at(at)),
-        Form::Number { .. } => Err(Refusal::NotAllowed.met_at(at)),
         Form::Sequence => {
             pass_sequence(s, at)?;
             Err(Refusal::NotAllowed.met_at(at))
         }
+        _ => Err(Refusal::NotAllowed.met_at(at)),
     }
 }
 

@@ -4,8 +4,9 @@ use Rattle.std.proofs.lemmas.Result.{err_from_is_err_and}
 use mathlib.Core.Path.{ap, ◌∙◌}
 use borrow.Author.Tests.{eq-eqb, ne_eqb}
 use Rattle.machine.specs.Skeleton.{due_by}
-use Rattle.nesting.proofs.BodyTurns.{number_shown, operator_shown, passed_due, stopped_by}
+use Rattle.nesting.proofs.BodyTurns.{operator_shown, passed_due, stopped_by, not_due_there}
 use Rattle.nesting.proofs.bodies.due_here.Goals as goal
+use Rattle.nesting.proofs.bodies.due_here.Goals.{in_default-form-via-in-Operator+else-number-n, in_default-form-via-in_default-form}
 
 pub returns-in_default : goal.returns-in_default
 unfolding due_by
@@ -15,14 +16,14 @@ pub returns-in-Operator : goal.returns-in-Operator
 unfolding due_by
 returns-in-Operator c = rw (operator_shown _ _ _ _ _ c.in-Operator.is c.in-Some.ensures, eq-eqb _ _ c.if-number-n.true)
 
-pub returns-in-Operator-2 : goal.returns-in-Operator-2
+pub returns-in_default-form : goal.returns-in_default-form
 unfolding due_by
-returns-in-Operator-2 c =
-    rw (operator_shown _ _ _ _ _ c.in-Operator.is c.in-Some.ensures, ne_eqb _ _ c.if-number-n.false, c.met_at-in-Operator-2.ensures)
-
-pub returns-in-Number : goal.returns-in-Number
-unfolding due_by
-returns-in-Number c = rw (number_shown _ _ _ _ _ c.in-Number.is c.in-Some.ensures, c.met_at-in-Number.ensures)
+returns-in_default-form c = elim c.in_default-form.branch [
+  | in_default-form-via-in-Operator+else-number-n w ↦
+      rw (operator_shown _ _ _ _ _ w.in-Operator.is c.in-Some.ensures, ne_eqb _ _ w.if-number-n.false, c.met_at-in_default-form.ensures)
+  | in_default-form-via-in_default-form w ↦
+      ap Err c.met_at-in_default-form.ensures ∙ not_due_there _ _ _ c.args.n c.in-Some.ensures w.in_default-form.not-Operator w.in_default-form.not-Sequence
+]
 
 pub returns-in_err-pass_sequence-in-Sequence : goal.returns-in_err-pass_sequence-in-Sequence
 unfolding stopped_by
