@@ -8,7 +8,6 @@ ghost use types.Run.{OneOf};
 ghost use Rattle.table.specs.Slots.{slots};
 ghost use Rattle.machine.specs.declared.Literal.{Literal};
 ghost use Rattle.machine.specs.declared.Literal.TheVariants.{Plain, WithBody};
-ghost use Rattle.machine.specs.declared.Went.TheVariants.{Past};
 ghost use Rattle.machine.specs.Limits.{most_open};
 ghost use Rattle.machine.specs.State.{running};
 ghost use Rattle.machine.specs.Skeleton.{solid, body_at};
@@ -132,7 +131,7 @@ fn span_end(
     next: usize,
 ) -> usize
     requires { Short pre.now body.now × Noting pre.now body.now early.old notes.old × BodyEnds (bytes_of (both pre.now body.now) origin) next }
-    ensures { (body_at most_open (bytes_of (both pre.now body.now) origin) next ≡ Past result) × Noting pre.now body.now early.new notes.new }
+    ensures { (body_at most_open (bytes_of (both pre.now body.now) origin) next ≡ Ok result) × Noting pre.now body.now early.new notes.new }
 {
     if origin == 0 {
         return spans::span_of(pre, next, early);

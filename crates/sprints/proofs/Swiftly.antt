@@ -14,7 +14,7 @@ use lib.IntN.{pos, ◌-ℤ◌}
 use lib.ListN.{length, get_or}
 use Rattle.numbers.specs.declared.Number as num
 use Rattle.numbers.specs.Fraction.{Answer}
-use Rattle.numbers.specs.declared.NoNumber.TheVariants.{TooLarge, ByZero}
+use Rattle.numbers.specs.declared.NoNumber.{NoNumber}
 use Rattle.numbers.specs.Arith.{sum_of, difference_of, product_of, quotient_of}
 use Rattle.table.specs.declared.Slot.{Slot}
 use Rattle.table.specs.Slots.{slots}
@@ -180,11 +180,9 @@ module _ (n : ℕ) (a b : num.Number) (r : Answer) where
   gives_number c x y e ex ey i = rw (ex, ey) (rw e at i)
 
 -- or that there is none
-pub fails_number : (n : ℕ) (a b : num.Number) (r : Answer) (x y : Value) → ((c : num.Number) → r ≡ Ok c → ⊥) → x ≡ Number b → y ≡ Number a → answered r ≡ effect_of (op_of n) (Number b) (Number a) → Fail ≡ effect_of (op_of n) x y
+pub fails_number : (n : ℕ) (a b : num.Number) (r : Answer) (x y : Value) {why : NoNumber} → r ≡ Err why → x ≡ Number b → y ≡ Number a → answered r ≡ effect_of (op_of n) (Number b) (Number a) → Fail ≡ effect_of (op_of n) x y
 unfolding answered
-fails_number n a b (Ok c) x y k ex ey i = absurd (k c refl)
-fails_number n a b (Err TooLarge) x y k ex ey i = rw (ex, ey) i
-fails_number n a b (Err ByZero) x y k ex ey i = rw (ex, ey) i
+fails_number n a b r x y k ex ey i = rw (ex, ey) (rw k at i)
 
 pub sums_two : (n : ℕ) → OneOf (201 ∷ 204 ∷ 210 ∷ 214 ∷ []) n → (2 ≡ arity_of (op_of n)) × (2 ≤ 2)
 unfolding arity_of arith_arity

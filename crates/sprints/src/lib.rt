@@ -22,7 +22,7 @@ ghost use Rattle.sprints.specs.Swift.{TokenThere, LiteralsLeft, undone_height, f
 
 use literals::reading::{NAME, TEXT};
 use machine::{Effect, FrameOp, Next, TestOp, Value, VectorOp, Work};
-use numbers::{Answer, Number};
+use numbers::{NoNumber, Number};
 use operands::Card;
 use state::Registers;
 use tokens::Form;
@@ -145,7 +145,7 @@ fn pop(w: &[u8], r: Registers) -> usize
 }
 
 // ADD, DIV, MUL and SUB of a and b, which was pushed last.
-fn two_numbers(n: u16, a: Number, b: Number) -> Answer
+fn two_numbers(n: u16, a: Number, b: Number) -> Result<Number, NoNumber>
     requires { OneOf (201 ∷ 204 ∷ 210 ∷ 214 ∷ []) n }
     ensures { answered result ≡ effect_of (op_of n) (value.Number b) (value.Number a) }
 {
@@ -171,8 +171,8 @@ fn reckon(w: &mut [u8], r: Registers, n: u16) -> usize
                 let mut q = r;
                 q.height = r.height - 2;
                 match two_numbers(n, a, b) {
-                    Answer::Is(c) => height_of(state::stack::push_number(w, q, c)),
-                    _ => FAILED,
+                    Ok(c) => height_of(state::stack::push_number(w, q, c)),
+                    Err(_) => FAILED,
                 }
             }
             _ => UNDONE,
@@ -340,7 +340,7 @@ fn sequence(w: &mut [u8], r: Registers, b: &[u8], at: usize) -> Stride
         };
     }
     match reader::reading::sequence_at(b, at) {
-        tokens::Read::Number { value, next } => {
+        Ok(tokens::Read::Number { value, next }) => {
             let height = height_of(state::stack::push_number(w, r, value));
             Stride {
                 height,
@@ -376,7 +376,6 @@ fn literal(w: &mut [u8], r: Registers, b: &[u8], at: usize, clear: usize) -> Str
             }
         }
         Form::Sequence => sequence(w, r, b, at),
-        Form::Cut => undone(at),
     }
 }
 
@@ -392,7 +391,7 @@ pub fn row(
     clear: usize,
 ) -> Reach
     requires { (length b.now ≤ 16777215) × Busy w.old start × (start.skipping ≡ false) × (start.ok ≡ false) × (end ≡ ending w.old start.depth) × (marked w.old start.height ≤ clear) × LiteralsLeft b.now at end }
-    ensures { (result.left ≤ most) × (result.left < most → result.at ≤ length b.now) × ((result.number ≡ 0 → ⊥) → (0 < result.left) × (token_at b.now result.at ≡ read.Operator result.number result.next) × LiteralThere b.now result.at) × (result.failed ≡ true → (0 < result.left) × ((found_at b.now result.at).next ≡ solid b.now result.next) × (result.next ≤ length b.now)) × ((code : Code) (n : ℕ) → b.now ≡ bytes_of code (origin w.old start.depth) → Rowed code b.now at n most w.old start w.new result) }
+    ensures { (result.left ≤ most) × (result.left < most → result.at ≤ length b.now) × ((result.number ≡ 0 → ⊥) → (0 < result.left) × (token_at b.now result.at ≡ Ok (read.Operator result.number result.next)) × LiteralThere b.now result.at) × (result.failed ≡ true → (0 < result.left) × ((found_at b.now result.at).next ≡ solid b.now result.next) × (result.next ≤ length b.now)) × ((code : Code) (n : ℕ) → b.now ≡ bytes_of code (origin w.old start.depth) → Rowed code b.now at n most w.old start w.new result) }
 {
     let mut r = start;
     let mut p = at;

@@ -25,6 +25,3 @@ returns-in-Operator c =
 
 pub returns-in-Sequence : goal.returns-in-Sequence
 returns-in-Sequence c = strides_higher c.requires.4 c.sequence.ensures
-
-pub returns-in-Cut : goal.returns-in-Cut
-returns-in-Cut c = strides_none _ _ _ c.undone.ensures

@@ -1,5 +1,6 @@
 use native.Mathlib.Omega.{arith}
-use mathlib.Core.Path.{refl, sym, ◌∙◌}
+use mathlib.Core.Path.{refl, sym, ap, ◌∙◌}
+use Rattle.std.specs.Prelude.{Ok}
 use Rattle.literals.proofs.Finding.{name_inside}
 use Rattle.passing.proofs.Knowing.{name_there}
 use Rattle.sprints.proofs.Rows.{strides_none, strides_name, strides_figure, sequence_read}
@@ -21,9 +22,9 @@ pub returns-then-low5-eq-NAME : goal.returns-then-low5-eq-NAME
 returns-then-low5-eq-NAME c =
     strides_name _ _ _ _ _ _ (name_there _ _ c.requires.2.1 c.requires.3.0 _ c.extent-x.ensures (sym c.low5-2.ensures ∙ c.if-low5-eq-NAME.true)) c.word.ensures c.word-then-low5-eq-NAME.ensures (λ code. flat_of code _ (name_flat _ _ _) _ _ c.height_of-height.ensures (by_name code _ _ _ refl c.push_name.ensures))
 
-pub returns-in-Number : goal.returns-in-Number
-returns-in-Number c =
-    strides_figure _ _ _ _ (sequence_read _ _ c.requires.2.1 c.requires.3.0 _ _ c.sequence_at.ensures c.in-Number.is) (λ code. flat_of code _ (figure_flat _ _) _ _ c.height_of-height-in-Number.ensures (by_figure code _ _ refl c.push_number.ensures))
+pub returns-in-Ok-Number : goal.returns-in-Ok-Number
+returns-in-Ok-Number c =
+    strides_figure _ _ _ _ (sequence_read _ _ c.requires.2.1 c.requires.3.0 _ _ c.sequence_at.ensures c.in-Ok-Number.is ∙ ap Ok c.in-Ok-Number.field-0-is) (λ code. flat_of code _ (figure_flat _ _) _ _ c.height_of-height-in-Ok-Number.ensures (by_figure code _ _ refl c.push_number.ensures))
 
 pub returns-in_default : goal.returns-in_default
 returns-in_default c = strides_none _ _ _ c.undone-in_default.ensures
