@@ -26,7 +26,8 @@ unfoldable pub turn_by : List ℕ → ℕ → ℕ → Result Read Refused → Re
 turn_by s bodies at (Ok (Number value next)) = Err (refusal_at NotAllowed at)
 turn_by s bodies at (Ok (Identifier len next)) = Err (refusal_at NotAllowed at)
 turn_by s bodies at (Ok (String count next)) = Err (refusal_at NotAllowed at)
-turn_by s bodies at (Ok (Operator n next)) = cond (eqb n opening) (page_turn s bodies at) (cond (eqb n ending) (end_turn s next) (Err (refusal_at NotAllowed at)))
+turn_by s bodies at (Ok (Operator n next)) =
+    cond (eqb n opening) (page_turn s bodies at) (cond (eqb n ending) (end_turn s next) (Err (refusal_at NotAllowed at)))
 turn_by s bodies at (Ok (Comment next)) = Ok (Aside next)
 turn_by s bodies at (Err w) = Err w
 

@@ -18,7 +18,8 @@ body-returns-in_err-next t c =
 
 pub body-returns-then-left-eq0 : goal.body-returns-then-left-eq0
 body-returns-then-left-eq0 t c =
-    rw (c.met_at.ensures, c.past_comments-q.ensures) (full _ _ _ _ (due_there _ _ _ _ _ c.past_comments-q.ensures c.due_here.ensures ∙ c.in_ok-next.was) (omega (arith, c.if-left-eq0.true)))
+    let e = due_there _ _ _ _ _ c.past_comments-q.ensures c.due_here.ensures ∙ c.in_ok-next.was in
+    rw (c.met_at.ensures, c.past_comments-q.ensures) (full _ _ _ _ e (omega (arith, c.if-left-eq0.true)))
 
 pub body-literals-requires : goal.body-literals-requires
 body-literals-requires t c =
@@ -29,7 +30,9 @@ body-literals-requires t c =
 
 pub body-returns : goal.body-returns
 body-returns t c =
-    let a = c.args in c.literals.ensures ∙ entered a.left a.s.now a.at _ (due_there _ _ _ _ _ c.past_comments-q.ensures c.due_here.ensures ∙ c.in_ok-next.was) (omega (arith, c.if-left-eq0.false))
+    let a = c.args in
+    let e = due_there _ _ _ _ _ c.past_comments-q.ensures c.due_here.ensures ∙ c.in_ok-next.was in
+    c.literals.ensures ∙ entered a.left a.s.now a.at _ e (omega (arith, c.if-left-eq0.false))
 
 pub literals-loop-form-init : goal.literals-loop-form-init
 literals-loop-form-init t c =
@@ -52,17 +55,21 @@ literals-returns-in_err-p-in-Holds t c =
     let a = c.args in
     let o = c.loop-form in
     let p = err_from_is_err_and c.from_residual.result c.from_residual.ensures.1 in
-    rw (p.1, p.2) (refused a.left a.s.now a.at o.p o.invariant _ (holding _ _ _ a.left _ _ _ _ _ c.in-Operator.is c.in-Some.ensures c.role_of.ensures c.in-Holds.is c.body.ensures c.in_err-p-in-Holds.was))
+    let e = holding _ _ _ a.left _ _ _ _ _ c.in-Operator.is c.in-Some.ensures c.role_of.ensures c.in-Holds.is c.body.ensures c.in_err-p-in-Holds.was in
+    rw (p.1, p.2) (refused a.left a.s.now a.at o.p o.invariant _ e)
 
 pub literals-returns-in-Closes : goal.literals-returns-in-Closes
 literals-returns-in-Closes t c =
-    let a = c.args in let o = c.loop-form in ended a.left a.s.now a.at o.p o.invariant _ (closing _ _ _ a.left _ _ _ c.in-Operator.is c.in-Some.ensures c.role_of.ensures c.in-Closes.is)
+    let a = c.args in
+    let o = c.loop-form in
+    ended a.left a.s.now a.at o.p o.invariant _ (closing _ _ _ a.left _ _ _ c.in-Operator.is c.in-Some.ensures c.role_of.ensures c.in-Closes.is)
 
 pub literals-returns-in-Barred : goal.literals-returns-in-Barred
 literals-returns-in-Barred t c =
     let a = c.args in
     let o = c.loop-form in
-    ap Err c.met_at-in-Barred.ensures ∙ refused a.left a.s.now a.at o.p o.invariant _ (barred _ _ _ a.left _ _ _ c.in-Operator.is c.in-Some.ensures c.role_of.ensures c.in-Barred.is)
+    let e = barred _ _ _ a.left _ _ _ c.in-Operator.is c.in-Some.ensures c.role_of.ensures c.in-Barred.is in
+    ap Err c.met_at-in-Barred.ensures ∙ refused a.left a.s.now a.at o.p o.invariant _ e
 
 pub literals-returns-in_err-p-in-Sequence : goal.literals-returns-in_err-p-in-Sequence
 unfolding passed_by
@@ -70,7 +77,8 @@ literals-returns-in_err-p-in-Sequence t c =
     let a = c.args in
     let o = c.loop-form in
     let p = err_from_is_err_and c.from_residual-in_err-p-in-Sequence.result c.from_residual-in_err-p-in-Sequence.ensures.1 in
-    rw (p.1, p.2) (refused a.left a.s.now a.at o.p o.invariant _ (passed _ _ _ a.left _ _ c.in-Sequence.is c.in-Some.ensures c.pass_sequence.ensures c.in_err-p-in-Sequence.was))
+    let e = passed _ _ _ a.left _ _ c.in-Sequence.is c.in-Some.ensures c.pass_sequence.ensures c.in_err-p-in-Sequence.was in
+    rw (p.1, p.2) (refused a.left a.s.now a.at o.p o.invariant _ e)
 
 pub literals-loop-form-smaller-in-Number : goal.literals-loop-form-smaller-in-Number
 literals-loop-form-smaller-in-Number t c =
@@ -82,28 +90,42 @@ literals-loop-form-preserved-in-Number t c =
 
 pub literals-loop-form-smaller-in-Plain : goal.literals-loop-form-smaller-in-Plain
 literals-loop-form-smaller-in-Plain t c =
-    let a = c.args in let o = c.loop-form in shorter a.left a.s.now a.at o.p o.invariant _ (plain_on _ _ _ a.left _ _ _ c.in-Operator.is c.in-Some.ensures c.role_of.ensures c.in-Plain.is)
+    let a = c.args in
+    let o = c.loop-form in
+    shorter a.left a.s.now a.at o.p o.invariant _ (plain_on _ _ _ a.left _ _ _ c.in-Operator.is c.in-Some.ensures c.role_of.ensures c.in-Plain.is)
 
 pub literals-loop-form-preserved-in-Plain : goal.literals-loop-form-preserved-in-Plain
 literals-loop-form-preserved-in-Plain t c =
-    let a = c.args in let o = c.loop-form in onward a.left a.s.now a.at o.p o.invariant _ (plain_on _ _ _ a.left _ _ _ c.in-Operator.is c.in-Some.ensures c.role_of.ensures c.in-Plain.is)
+    let a = c.args in
+    let o = c.loop-form in
+    onward a.left a.s.now a.at o.p o.invariant _ (plain_on _ _ _ a.left _ _ _ c.in-Operator.is c.in-Some.ensures c.role_of.ensures c.in-Plain.is)
 
 pub literals-loop-form-smaller-in_ok-p-in-Holds : goal.literals-loop-form-smaller-in_ok-p-in-Holds
 unfolding held
 literals-loop-form-smaller-in_ok-p-in-Holds t c =
-    let a = c.args in let o = c.loop-form in shorter a.left a.s.now a.at o.p o.invariant _ (holding _ _ _ a.left _ _ _ _ _ c.in-Operator.is c.in-Some.ensures c.role_of.ensures c.in-Holds.is c.body.ensures c.in_ok-p-in-Holds.was)
+    let a = c.args in
+    let o = c.loop-form in
+    let e = holding _ _ _ a.left _ _ _ _ _ c.in-Operator.is c.in-Some.ensures c.role_of.ensures c.in-Holds.is c.body.ensures c.in_ok-p-in-Holds.was in
+    shorter a.left a.s.now a.at o.p o.invariant _ e
 
 pub literals-loop-form-preserved-in_ok-p-in-Holds : goal.literals-loop-form-preserved-in_ok-p-in-Holds
 unfolding held
 literals-loop-form-preserved-in_ok-p-in-Holds t c =
-    let a = c.args in let o = c.loop-form in onward a.left a.s.now a.at o.p o.invariant _ (holding _ _ _ a.left _ _ _ _ _ c.in-Operator.is c.in-Some.ensures c.role_of.ensures c.in-Holds.is c.body.ensures c.in_ok-p-in-Holds.was)
+    let a = c.args in
+    let o = c.loop-form in
+    let e = holding _ _ _ a.left _ _ _ _ _ c.in-Operator.is c.in-Some.ensures c.role_of.ensures c.in-Holds.is c.body.ensures c.in_ok-p-in-Holds.was in
+    onward a.left a.s.now a.at o.p o.invariant _ e
 
 pub literals-loop-form-smaller : goal.literals-loop-form-smaller
 unfolding passed_by
 literals-loop-form-smaller t c =
-    let a = c.args in let o = c.loop-form in shorter a.left a.s.now a.at o.p o.invariant _ (passed _ _ _ a.left _ _ c.in-Sequence.is c.in-Some.ensures c.pass_sequence.ensures c.in_ok-p-in-Sequence.was)
+    let a = c.args in
+    let o = c.loop-form in
+    shorter a.left a.s.now a.at o.p o.invariant _ (passed _ _ _ a.left _ _ c.in-Sequence.is c.in-Some.ensures c.pass_sequence.ensures c.in_ok-p-in-Sequence.was)
 
 pub literals-loop-form-preserved : goal.literals-loop-form-preserved
 unfolding passed_by
 literals-loop-form-preserved t c =
-    let a = c.args in let o = c.loop-form in onward a.left a.s.now a.at o.p o.invariant _ (passed _ _ _ a.left _ _ c.in-Sequence.is c.in-Some.ensures c.pass_sequence.ensures c.in_ok-p-in-Sequence.was)
+    let a = c.args in
+    let o = c.loop-form in
+    onward a.left a.s.now a.at o.p o.invariant _ (passed _ _ _ a.left _ _ c.in-Sequence.is c.in-Some.ensures c.pass_sequence.ensures c.in_ok-p-in-Sequence.was)

@@ -34,4 +34,5 @@ returns-in_err-pass_sequence-in-Sequence c =
 pub returns-in_ok-pass_sequence-in-Sequence : goal.returns-in_ok-pass_sequence-in-Sequence
 unfolding stopped_by
 returns-in_ok-pass_sequence-in-Sequence c =
-    ap Err c.met_at-in-Sequence.ensures ∙ passed_due _ _ _ c.args.n _ _ c.in-Sequence.is c.in-Some.ensures c.pass_sequence.ensures c.in_ok-pass_sequence-in-Sequence.was
+    let e = passed_due _ _ _ c.args.n _ _ c.in-Sequence.is c.in-Some.ensures c.pass_sequence.ensures c.in_ok-pass_sequence-in-Sequence.was in
+    ap Err c.met_at-in-Sequence.ensures ∙ e

@@ -35,7 +35,9 @@ returns-in_default c =
 
 pub returns-in_default-token : goal.returns-in_default-token
 returns-in_default-token c =
-    let l = c.loop-token in stands l.invariant.0 _ l.p _ _ l.invariant.1 l.invariant.2 (is_token _ l.p c.take-taken.ensures c.in-Ok.is) (solid_kind _ c.in_default-token.not-Comment)
+    let l = c.loop-token in
+    let e = is_token _ l.p c.take-taken.ensures c.in-Ok.is in
+    stands l.invariant.0 _ l.p _ _ l.invariant.1 l.invariant.2 e (solid_kind _ c.in_default-token.not-Comment)
 
 pub loop-token-smaller : goal.loop-token-smaller
 loop-token-smaller c =

@@ -24,7 +24,8 @@ overflow_add-had c = omega (arith, c.loop-next.invariant.few)
 
 pub loop-next-smaller : goal.loop-next-smaller
 loop-next-smaller c =
-    let g = counting_page _ _ _ _ _ _ c.loop-next.invariant _ _ c.requires (sym c.turn.ensures ∙ c.in_ok-next.was ∙ ap Ok c.in-Page.is) c.note.ensures in omega (arith, g.0, g.1)
+    let g = counting_page _ _ _ _ _ _ c.loop-next.invariant _ _ c.requires (sym c.turn.ensures ∙ c.in_ok-next.was ∙ ap Ok c.in-Page.is) c.note.ensures in
+    omega (arith, g.0, g.1)
 
 pub loop-next-preserved : goal.loop-next-preserved
 loop-next-preserved c =

@@ -9,7 +9,8 @@ use Rattle.skeleton.proofs.pages.preamble_on.Goals as goal
 
 pub returns-in_err-next : goal.returns-in_err-next
 returns-in_err-next c =
-    let p = err_from_is_err_and c.from_residual.result c.from_residual.ensures.1 in rw (p.1, p.2) (preamble_bad _ _ _ _ (sym c.body.ensures ∙ c.in_err-next.was))
+    let p = err_from_is_err_and c.from_residual.result c.from_residual.ensures.1 in
+    rw (p.1, p.2) (preamble_bad _ _ _ _ (sym c.body.ensures ∙ c.in_err-next.was))
 
 pub note-requires : goal.note-requires
 note-requires c =
@@ -17,4 +18,5 @@ note-requires c =
 
 pub returns : goal.returns
 returns c =
-    preamble_read _ _ c.args.places.now _ c.args.at _ _ c.requires (sym c.body.ensures ∙ c.in_ok-next.was) (rw c.past_comments.ensures at c.note.ensures) c.pages.ensures
+    let e = sym c.body.ensures ∙ c.in_ok-next.was in
+    preamble_read _ _ c.args.places.now _ c.args.at _ _ c.requires e (rw c.past_comments.ensures at c.note.ensures) c.pages.ensures

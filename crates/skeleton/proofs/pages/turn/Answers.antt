@@ -19,7 +19,8 @@ returns-in-Operator c =
 pub returns-in-Operator-2 : goal.returns-in-Operator-2
 unfolding turn_at turn_by
 returns-in-Operator-2 c =
-    rw (← c.read_token.ensures, c.in_ok-number.was, c.in-Operator.is, ne_eqb _ _ c.if-number-eq-OPEN.false, eq-eqb _ _ c.if-number-eq-END.true, c.end_turn.ensures)
+    let e = ne_eqb _ _ c.if-number-eq-OPEN.false in
+    rw (← c.read_token.ensures, c.in_ok-number.was, c.in-Operator.is, e, eq-eqb _ _ c.if-number-eq-END.true, c.end_turn.ensures)
 
 pub returns-in-Comment : goal.returns-in-Comment
 unfolding turn_at turn_by
@@ -29,7 +30,9 @@ pub returns-in_default : goal.returns-in_default
 unfolding turn_at turn_by
 returns-in_default c = elim c.in_default.branch [
   | in_default-via-in-Operator-2+else-number-eq-END w ↦
-      rw (c.met_at.ensures, ← c.read_token.ensures, c.in_ok-number.was, w.in-Operator.is, ne_eqb _ _ w.if-number-eq-OPEN.false, ne_eqb _ _ w.if-number-eq-END.false)
+      let e = ne_eqb _ _ w.if-number-eq-OPEN.false in
+      rw (c.met_at.ensures, ← c.read_token.ensures, c.in_ok-number.was, w.in-Operator.is, e, ne_eqb _ _ w.if-number-eq-END.false)
   | in_default-via-in_default w ↦
-      rw (c.met_at.ensures, ← c.read_token.ensures, c.in_ok-number.was) (barred _ c.args.s.now c.args.had c.args.at w.in_default.not-Operator w.in_default.not-Comment)
+      let a = c.args in
+      rw (c.met_at.ensures, ← c.read_token.ensures, c.in_ok-number.was) (barred _ a.s.now a.had a.at w.in_default.not-Operator w.in_default.not-Comment)
 ]
