@@ -83,7 +83,8 @@ module _ (s : List ℕ) (k : ℕ) where
   unfolding literal_by passing held
   passing_of at next = by_token (token_at s at) refl
     where
-      by_went : (n x : ℕ) → token_at s at ≡ Ok (Operator n x) → role_of n ≡ Holds → (w : Result ℕ Refused) → body_at k s x ≡ w → held w ≡ Ok (On next) → Passing s k at next
+      by_went : (n x : ℕ) → token_at s at ≡ Ok (Operator n x) → role_of n ≡ Holds → (w : Result ℕ Refused) → body_at k s x ≡ w
+          → held w ≡ Ok (On next) → Passing s k at next
       by_went n x e r (Ok y) q h = holding n x e r (q ∙ ap Ok (same_on h))
       by_went n x e r (Err w) q h = never (bad_on h)
 
@@ -109,7 +110,8 @@ module _ (s : List ℕ) (k : ℕ) where
       by_went (Ok y) h = never (closed_on (sym h))
       by_went (Err w) h = never (bad_closed h)
 
-      by_role : (n x : ℕ) → token_at s at ≡ Ok (Operator n x) → (r : Role) → role_of n ≡ r → passing r at (body_at k s) x ≡ Ok (Closed next) → token_at s at ≡ Ok (Operator closing next)
+      by_role : (n x : ℕ) → token_at s at ≡ Ok (Operator n x) → (r : Role) → role_of n ≡ r → passing r at (body_at k s) x ≡ Ok (Closed next)
+          → token_at s at ≡ Ok (Operator closing next)
       by_role n x e Plain r h = never (closed_on (sym h))
       by_role n x e Holds r h = by_went (body_at k s x) h
       by_role n x e Closes r h = rw (closes_is n r) at (e ∙ ap (λ x. Ok (Operator n x)) (same_closed h))
@@ -137,13 +139,15 @@ module _ (s : List ℕ) (k : ℕ) where
   literal_of at next (holding n inner e r h) = rw (e, r, h)
 
   -- and literals up to a `}`
-  pub literals_parts : (j at next : ℕ) → literals_from j (literal_at k s) at ≡ Ok next → (end : ℕ) × Passes s k at end × (token_at s end ≡ Ok (Operator closing next))
+  pub literals_parts : (j at next : ℕ) → literals_from j (literal_at k s) at ≡ Ok next
+      → (end : ℕ) × Passes s k at end × (token_at s end ≡ Ok (Operator closing next))
   unfolding literals_from and_then
   literals_parts zero at next h = never (stop_past h)
   literals_parts (suc j) at next h = by_passed (λ x. literals_parts j x next) (literal_at k s at) refl h
     where
       by_passed : ((x : ℕ) → literals_from j (literal_at k s) x ≡ Ok next → (end : ℕ) × Passes s k x end × (token_at s end ≡ Ok (Operator closing next)))
-          → (p : Result Passed Refused) → literal_at k s at ≡ p → and_then p (literals_from j (literal_at k s)) ≡ Ok next → (end : ℕ) × Passes s k at end × (token_at s end ≡ Ok (Operator closing next))
+          → (p : Result Passed Refused) → literal_at k s at ≡ p → and_then p (literals_from j (literal_at k s)) ≡ Ok next
+          → (end : ℕ) × Passes s k at end × (token_at s end ≡ Ok (Operator closing next))
       by_passed ih (Ok (On x)) e g = let r = ih x g in (r.0, more (passing_of at x e) r.1, r.2)
       by_passed ih (Ok (Closed x)) e g = (at, stop, closed_of at x e ∙ ap (λ y. Ok (Operator closing y)) (same_past g))
       by_passed ih (Err w) e g = never (stop_past g)
@@ -175,7 +179,8 @@ module _ (s : List ℕ) (k : ℕ) where
   passes_later at end stop = omega arith
   passes_later at end (more {next = next} p q) = omega (arith, (passing_later at next p).0, passes_later next end q)
 
-  pub literals_of : (j at end next : ℕ) → length s ≤ at + j → Passes s k at end → token_at s end ≡ Ok (Operator closing next) → literals_from j (literal_at k s) at ≡ Ok next
+  pub literals_of : (j at end next : ℕ) → length s ≤ at + j → Passes s k at end → token_at s end ≡ Ok (Operator closing next)
+      → literals_from j (literal_at k s) at ≡ Ok next
   unfolding literals_from and_then
   literals_of zero at end next l stop e = let g = operator_beyond s at closing next e in absurd (omega (arith, g.0, g.1))
   literals_of zero at end next l (more {next = x} p q) e = absurd (omega (arith, (passing_later at x p).1))

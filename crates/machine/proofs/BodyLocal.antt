@@ -113,7 +113,8 @@ module _ (s : List ℕ) (a e p : ℕ) (inside : e ≤ length s) (begins : a ≤ 
       let c : p ≤ q = comments_later s p q (comments_are s p) in
       due_is n b (p - a) (q - a) (next - a) (comments_in s a e b v p (p - a) q (omega arith) (comments_are s p) (rw o l)) (operator_in s a e b v q (q - a) n next (omega arith) o l)
 
-  pub literals_local : (k m next : ℕ) → k ≤ m → literals_from (length s) (literal_at k s) p ≡ Ok next → next ≤ e → literals_from (length (slice a e s)) (literal_at m (slice a e s)) (p - a) ≡ Ok (next - a)
+  pub literals_local : (k m next : ℕ) → k ≤ m → literals_from (length s) (literal_at k s) p ≡ Ok next → next ≤ e
+      → literals_from (length (slice a e s)) (literal_at m (slice a e s)) (p - a) ≡ Ok (next - a)
   literals_local k m next few h l =
       let r = literals_parts s k (length s) p next h in
       let g : r.0 < next = (operator_beyond s r.0 closing next r.2).0 in

@@ -108,4 +108,5 @@ two_bytes s at n next l = either P (ltb at (length s)) _ _ (λ _. by_first) (λ 
         either P (ltb (get_or s at 0) 128) _ _ (λ _. paired _ (λ e. never (cc)))
         (λ _. either P (ltb (get_or s at 0) 160) (Ok (Operator (get_or s at 0 % 32) (at + 1))) _
         (λ _ e. let z : get_or s at 0 % 32 ≡ n = cc in absurd (omega (arith, mod-lt (get_or s at 0) {m = 32} (lit< tt))))
-        (λ _. either P (ltb (get_or s at 0) 192) _ _ (λ _. paired (Ok (Operator (get_or s at 0 % 32 * 256 + get_or s (at + 1) 0) (at + 2))) (λ e. cc)) (λ _. by_joined _ (joined_at s at))))
+        (λ _. either P (ltb (get_or s at 0) 192) _ _ (λ _. paired (Ok (Operator (get_or s at 0 % 32 * 256 + get_or s (at + 1) 0) (at + 2))) (λ e. cc))
+        (λ _. by_joined _ (joined_at s at))))

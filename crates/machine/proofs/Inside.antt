@@ -82,12 +82,14 @@ pub went_lower : (n low at : ℕ) (w : Result ℕ Refused) → low ≤ at → We
 went_lower n low at (Ok next) h e = (omega (arith, e.0), e.1)
 went_lower n low at (Err w) h e = tt
 
-follow_inside : (n low at : ℕ) (w : Result ℕ Refused) (rest : ℕ → Result ℕ Refused) → WentIn n at w → ((p : ℕ) → at < p → WentIn n low (rest p)) → WentIn n low (follow w rest)
+follow_inside : (n low at : ℕ) (w : Result ℕ Refused) (rest : ℕ → Result ℕ Refused) → WentIn n at w → ((p : ℕ) → at < p → WentIn n low (rest p))
+    → WentIn n low (follow w rest)
 unfolding follow
 follow_inside n low at (Ok next) rest h r = r next h.0
 follow_inside n low at (Err w) rest h r = tt
 
-then_inside : (n at : ℕ) (p : Result Passed Refused) (rest : ℕ → Result ℕ Refused) → PassedIn n at p → ((q : ℕ) → WentIn n q (rest q)) → WentIn n at (and_then p rest)
+then_inside : (n at : ℕ) (p : Result Passed Refused) (rest : ℕ → Result ℕ Refused) → PassedIn n at p → ((q : ℕ) → WentIn n q (rest q))
+    → WentIn n at (and_then p rest)
 unfolding and_then
 then_inside n at (Ok (On next)) rest h r = went_lower n at next (rest next) (omega (arith, h.0)) (r next)
 then_inside n at (Ok (Closed next)) rest h r = h
@@ -133,7 +135,8 @@ pub due_inside : (m : ℕ) (s : List ℕ) (at : ℕ) → WentIn (length s) (soli
 unfolding due
 due_inside m s at = due_by_lem (length s) m (solid s at) (token_at s (solid s at)) (token_inside s (solid s at))
 
-literals_of : (s : List ℕ) (inner : ℕ → Result ℕ Refused) → ((p : ℕ) → WentIn (length s) p (inner p)) → (at : ℕ) → WentIn (length s) at (literals_from (length s) (λ p. literal_by p inner (token_at s p)) at)
+literals_of : (s : List ℕ) (inner : ℕ → Result ℕ Refused) → ((p : ℕ) → WentIn (length s) p (inner p)) → (at : ℕ)
+    → WentIn (length s) at (literals_from (length s) (λ p. literal_by p inner (token_at s p)) at)
 literals_of s inner h at =
     literals_inside (length s) (length s) (λ p. literal_by p inner (token_at s p)) at (λ p. literal_inside (length s) p inner h (token_at s p) (token_inside s p))
 

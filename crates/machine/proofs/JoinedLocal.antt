@@ -47,7 +47,8 @@ abbrev Later : ℕ → Joined → Type 0
 Later at (whole d next) = at ≤ next
 Later at (cut_at place) = Unit
 
-later_piece : (at : ℕ) (w : Option Piece) (n : ℕ) (F : ℕ → ℕ → Joined) → Inside n at w → ((f m : ℕ) → Later (f + m) (F f m)) → Later at (on_piece w (cut_at at) F)
+later_piece : (at : ℕ) (w : Option Piece) (n : ℕ) (F : ℕ → ℕ → Joined) → Inside n at w → ((f m : ℕ) → Later (f + m) (F f m))
+    → Later at (on_piece w (cut_at at) F)
 unfolding on_piece
 later_piece at (Some p) n F i g = weaker (F p.start p.len) (g p.start p.len)
   where
@@ -110,11 +111,13 @@ module _ (s : List ℕ) (a e : ℕ) (b : List ℕ) (v : View s a e b) where
       goes : ((y i : ℕ) (c : List ℕ) → y ≡ a + i → length s ≤ y + k → length b ≤ i + (m - 1) → joined_from k s y c ≡ whole j next → next ≤ e → joined_from (m - 1) b i c ≡ whole j (next - a))
           → continued (get_or s x 0) ≡ true → (w : Option Piece) → piece_at s x ≡ w → joined_from m b at d ≡ whole j (next - a)
       goes ih t (Some got) w =
-          let r : joined_from k s (got.start + got.len) (d ++ slice got.start (got.start + got.len) s) ≡ whole j next = rw (t, w) at q in
-          let y : got.start + got.len ≤ next = rw r at (later k s (got.start + got.len) (d ++ slice got.start (got.start + got.len) s)) in
-          let o : Moved s a b x at got.start got.len = moved x at got.start got.len p w (omega arith) in
+          let f : ℕ = got.start in
+          let n : ℕ = got.len in
+          let r : joined_from k s (f + n) (d ++ slice f (f + n) s) ≡ whole j next = rw (t, w) at q in
+          let y : f + n ≤ next = rw r at (later k s (f + n) (d ++ slice f (f + n) s)) in
+          let o : Moved s a b x at f n = moved x at f n p w (omega arith) in
           let c : continued (get_or b at 0) ≡ true = ap continued (v.byte at x p (omega arith)) ∙ t in
-          turn m b at d g ∙ rw (c, o.piece, o.bytes) (ih (got.start + got.len) (got.start - a + got.len) (d ++ slice got.start (got.start + got.len) s) o.place (omega arith) (omega arith) r l)
+          turn m b at d g ∙ rw (c, o.piece, o.bytes) (ih (f + n) (f - a + n) (d ++ slice f (f + n) s) o.place (omega arith) (omega arith) r l)
       goes ih t None w = let r : cut_at x ≡ whole j next = rw (t, w) at q in let z : ◌≡◌ {A = ℕ} 0 1 = cc in absurd (omega arith)
 
   pub joined_in : (x at : ℕ) (d : List ℕ) (next : ℕ) → x ≡ a + at → joined_at s x ≡ whole d next → next ≤ e → joined_at b at ≡ whole d (next - a)
@@ -122,10 +125,13 @@ module _ (s : List ℕ) (a e : ℕ) (b : List ℕ) (v : View s a e b) where
     where
       by_piece : (w : Option Piece) → piece_at s x ≡ w → joined_at b at ≡ whole d (next - a)
       by_piece (Some got) w =
-          let r : joined_from (length s) s (got.start + got.len) (slice got.start (got.start + got.len) s) ≡ whole d next = sym (joined_data s x got.start got.len w) ∙ q in
-          let y : got.start + got.len ≤ next = rw r at (later (length s) s (got.start + got.len) (slice got.start (got.start + got.len) s)) in
-          let o : Moved s a b x at got.start got.len = moved x at got.start got.len p w (omega arith) in
-          joined_data b at (got.start - a) got.len o.piece ∙ rw o.bytes (from_local (length s) (length b) (got.start + got.len) (got.start - a + got.len) (slice got.start (got.start + got.len) s) d next o.place (omega arith) (omega arith) r l)
+          let f : ℕ = got.start in
+          let n : ℕ = got.len in
+          let r : joined_from (length s) s (f + n) (slice f (f + n) s) ≡ whole d next = sym (joined_data s x f n w) ∙ q in
+          let y : f + n ≤ next = rw r at (later (length s) s (f + n) (slice f (f + n) s)) in
+          let o : Moved s a b x at f n = moved x at f n p w (omega arith) in
+          joined_data b at (f - a) n o.piece ∙
+          rw o.bytes (from_local (length s) (length b) (f + n) (f - a + n) (slice f (f + n) s) d next o.place (omega arith) (omega arith) r l)
       by_piece None w = let z : ◌≡◌ {A = ℕ} 0 1 = cc (joined_missing s x w) in absurd (omega arith)
 
 -- the same of a slice, by places of the whole

@@ -38,7 +38,8 @@ module _ (b : List ℕ) where
       → Readable b (solid b at) end
   here at next end x c e l i w r = rw (solid_is b at at (none_at c)) (literal l (rw e i) (rw e w) (rw e r))
 
-  module _ (k : ℕ) (few : k ≤ most_open) (inner : (at next : ℕ) → body_at k b at ≡ Ok next → Readable b (solid b (solid b at + 2)) (solid b at + 2 + (next - 2 - (solid b at + 2)))) where
+  module _ (k : ℕ) (few : k ≤ most_open)
+      (inner : (at next : ℕ) → body_at k b at ≡ Ok next → Readable b (solid b (solid b at + 2)) (solid b at + 2 + (next - 2 - (solid b at + 2)))) where
     readable_from : (at end : ℕ) → NoComment (token_at b end) → Passes b k at end → Readable b (solid b at) end
     unfolding found_at found_by operator_by holding_at holding_by
     readable_from at end c stop = rw (solid_is b at at (none_at c)) at_its_end
@@ -59,7 +60,8 @@ module _ (b : List ℕ) where
             (λ m start len z. let u : solid b x + 2 ≡ start = cc in let y : next - 2 - (solid b x + 2) ≡ len = cc in rw (← u, ← y) (inner x next h)) r
 
   -- the body that is read from a place on
-  pub inside_readable : (k : ℕ) → k ≤ most_open → (at next : ℕ) → body_at k b at ≡ Ok next → Readable b (solid b (solid b at + 2)) (solid b at + 2 + (next - 2 - (solid b at + 2)))
+  pub inside_readable : (k : ℕ) → k ≤ most_open → (at next : ℕ) → body_at k b at ≡ Ok next
+      → Readable b (solid b (solid b at + 2)) (solid b at + 2 + (next - 2 - (solid b at + 2)))
   inside_readable zero few at next h = no_body b at next h
   inside_readable (suc k) few at next h =
       let p = parts_of k b at next h in
@@ -112,7 +114,8 @@ unfolding pages_from outer_by page_at ended_at
 pages_sound zero s at spans h = tt
 pages_sound (suc k) s at spans h = by_token (λ x ps. pages_sound k s x ps) (token_at s at) refl
   where
-    by_token : ((x : ℕ) (ps : List Span) → AllWhole s ps → Sound s (pages_from k s x ps)) → (t : Result Read Refused) → token_at s at ≡ t → Sound s (outer_by s spans at t (pages_from k s))
+    by_token : ((x : ℕ) (ps : List Span) → AllWhole s ps → Sound s (pages_from k s x ps)) → (t : Result Read Refused) → token_at s at ≡ t
+        → Sound s (outer_by s spans at t (pages_from k s))
     by_token ih (Ok (read.Number value next)) e = tt
     by_token ih (Ok (read.Identifier len next)) e = tt
     by_token ih (Ok (read.String count next)) e = tt

@@ -56,7 +56,8 @@ passing_early Holds at inner next f = held_early (inner next) (f next)
 passing_early Closes at inner next f = tt
 passing_early Barred at inner next f = omega arith
 
-literal_early : (at : ℕ) (inner : ℕ → Result ℕ Refused) (x : Result Read Refused) → ReadEarly x → ((n : ℕ) → WentEarly (inner n)) → PassedEarly (literal_by at inner x)
+literal_early : (at : ℕ) (inner : ℕ → Result ℕ Refused) (x : Result Read Refused) → ReadEarly x → ((n : ℕ) → WentEarly (inner n))
+    → PassedEarly (literal_by at inner x)
 unfolding literal_by
 literal_early at inner (Ok (Number value next)) e f = tt
 literal_early at inner (Ok (Identifier len next)) e f = tt

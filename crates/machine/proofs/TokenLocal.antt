@@ -63,13 +63,15 @@ unfolding judged back
 back_judged a k at d next = simp (back_cond, back_number)
 
 -- a fact of every token that data up to `next` can be
-number_all : (P : Result Read Refused → Type 0) (at next : ℕ) (r : Answer) → ((w : Refusal) → P (Err (refusal_at w at))) → ((value : num.Number) → P (Ok (Number value next))) → P (number_read at next r)
+number_all : (P : Result Read Refused → Type 0) (at next : ℕ) (r : Answer) → ((w : Refusal) → P (Err (refusal_at w at)))
+    → ((value : num.Number) → P (Ok (Number value next))) → P (number_read at next r)
 unfolding number_read
 number_all P at next (Ok value) no_read f = f value
 number_all P at next (Err TooLarge) no_read f = no_read BadData
 number_all P at next (Err ByZero) no_read f = no_read BadData
 
-pub judged_all : (P : Result Read Refused → Type 0) (k at : ℕ) (d : List ℕ) (next : ℕ) → ((w : Refusal) → P (Err (refusal_at w at))) → ((value : num.Number) → P (Ok (Number value next))) → ((n : ℕ) → P (Ok (Identifier n next)))
+pub judged_all : (P : Result Read Refused → Type 0) (k at : ℕ) (d : List ℕ) (next : ℕ) → ((w : Refusal) → P (Err (refusal_at w at)))
+    → ((value : num.Number) → P (Ok (Number value next))) → ((n : ℕ) → P (Ok (Identifier n next)))
     → ((n : ℕ) → P (Ok (String n next))) → P (Ok (Comment next)) → P (judged k at d next)
 unfolding judged
 judged_all P k at d next none number name text comment =

@@ -137,11 +137,13 @@ module _ (s : List ℕ) (a : ℤ) (scratch scratch' rows rows' : List ℕ) where
   kept_by w p _ waits q x y = let z : w ≡ PreambleUnfinished = same_why q in (y, ((λ h. absurd (h z)), λ _. x))
   kept_by w p _ (stops {w = u} h) q x y = let z : w ≡ u = same_why q in (y, ((λ _. x), λ e. absurd (h (sym z ∙ e))))
 
-pub ran : {s : List ℕ} {a : ℤ} {scratch scratch' rows rows' : List ℕ} {c : ℕ} → Runs s a scratch scratch' rows rows' (Ok c) → Ran s a scratch scratch' rows rows' c
+pub ran : {s : List ℕ} {a : ℤ} {scratch scratch' rows rows' : List ℕ} {c : ℕ} → Runs s a scratch scratch' rows rows' (Ok c)
+    → Ran s a scratch scratch' rows rows' c
 ran {s} {a} {scratch} {scratch'} {rows} {rows'} {c} r =
     ran_by s a scratch scratch' rows rows' c (run_verdict s a scratch rows) (run_comes s a scratch rows) r.answer r.scratch_left r.rows_left
 
-pub run_refused : {s : List ℕ} {a : ℤ} {scratch scratch' rows rows' : List ℕ} {w : Refusal} {p : ℕ} → Runs s a scratch scratch' rows rows' (Err (refusal_at w p))
+pub run_refused : {s : List ℕ} {a : ℤ} {scratch scratch' rows rows' : List ℕ} {w : Refusal} {p : ℕ}
+    → Runs s a scratch scratch' rows rows' (Err (refusal_at w p))
     → (rows' ≡ rows) × Left w scratch scratch'
 run_refused {s} {a} {scratch} {scratch'} {rows} {rows'} {w} {p} r =
     kept_by s a scratch scratch' rows rows' w p (run_verdict s a scratch rows) (run_comes s a scratch rows) r.answer r.scratch_left r.rows_left
@@ -185,7 +187,8 @@ reprinted {s} {a} {page} {n} {scratch} {scratch'} {rows} {rows'} {sections} {sec
     reprinted_by s a page scratch scratch' rows rows' sections sections' n _ (reprint_comes s a page scratch rows sections) r.answer r.scratch_left r.rows_left r.sections_left
 
 pub reprint_refused : {s : List ℕ} {a page : ℤ} {scratch scratch' rows rows' sections sections' : List ℕ} {w : Refusal} {p : ℕ}
-    → Reprints s a page scratch scratch' rows rows' sections sections' (Err (refusal_at w p)) → (rows' ≡ rows) × (sections' ≡ sections) × Left w scratch scratch'
+    → Reprints s a page scratch scratch' rows rows' sections sections' (Err (refusal_at w p))
+    → (rows' ≡ rows) × (sections' ≡ sections) × Left w scratch scratch'
 reprint_refused {s} {a} {page} {scratch} {scratch'} {rows} {rows'} {sections} {sections'} {w} {p} r =
     left_by s a page scratch scratch' rows rows' sections sections' w p _ (reprint_comes s a page scratch rows sections) r.answer r.scratch_left r.rows_left r.sections_left
 
@@ -196,7 +199,8 @@ module _ (s : List ℕ) (n : ℕ) (scratch rows : List ℕ) where
       → (run_answer (finished (pos n) bodies) ≡ Ok c) ⊎ (run_answer (finished (pos n) bodies) ≡ Err (refusal_at PreambleUnfinished 0))
   unfolding finished run_answer
   finished_answer c bodies e =
-      either (λ v. (run_answer v ≡ Ok c) ⊎ (run_answer v ≡ Err (refusal_at PreambleUnfinished 0))) (eqb (outcome (preamble_end n (preamble_of bodies))) 3) unfinished (accepted bodies)
+      either (λ v. (run_answer v ≡ Ok c) ⊎ (run_answer v ≡ Err (refusal_at PreambleUnfinished 0)))
+      (eqb (outcome (preamble_end n (preamble_of bodies))) 3) unfinished (accepted bodies)
       (λ _. inr refl) (λ _. inl (ap Ok (sym e)))
 
   pub run_loaded : (c : ℕ) → load_answer s ≡ Ok c → scratch_size ≤ length scratch → rows_size ≤ length rows → 1 ≤ n → n ≤ most_steps

@@ -163,7 +163,8 @@ unfoldable pub outer_by : List ℕ → List Span → ℕ → Result Read Refused
 outer_by s spans at (Ok (Number value next)) rest = refused NotAllowed at
 outer_by s spans at (Ok (Identifier len next)) rest = refused NotAllowed at
 outer_by s spans at (Ok (String count next)) rest = refused NotAllowed at
-outer_by s spans at (Ok (Operator n next)) rest = cond (eqb n opening) (page_at s spans at rest) (cond (eqb n ending) (ended_at s spans next) (refused NotAllowed at))
+outer_by s spans at (Ok (Operator n next)) rest =
+    cond (eqb n opening) (page_at s spans at rest) (cond (eqb n ending) (ended_at s spans next) (refused NotAllowed at))
 outer_by s spans at (Ok (Comment next)) rest = rest next spans
 outer_by s spans at (Err w) rest = refused w.refusal w.place
 
