@@ -41,7 +41,8 @@ pub body_fits : (b : List ℕ) (next end : ℕ) (w : Result ℕ Refused) → w �
 body_fits b next end w e f = (body_long most_open b next end (sym e ∙ f), (rw (sym e ∙ f) at (body_later most_open b next)).1)
 
 module _ (b : List ℕ) (n next : ℕ) (w : Result ℕ Refused) (d : Due) (e : w ≡ body_at most_open b next) where
-  pub holding_found : (end s start len : ℕ) → w ≡ Ok end → s ≡ solid b next → start ≡ s + 2 → len ≡ end - 2 - (s + 2) → Is (found b (WithBody n start len) end) d → Is (holding_at b n next) d
+  pub holding_found : (end s start len : ℕ) → w ≡ Ok end → s ≡ solid b next → start ≡ s + 2 → len ≡ end - 2 - (s + 2)
+      → Is (found b (WithBody n start len) end) d → Is (holding_at b n next) d
   unfolding holding_at holding_by
   holding_found end s start len f g h i k = rw (← e, f, ← g, ← i, ← h) k
 
@@ -84,7 +85,8 @@ module _ (b : List ℕ) (at : ℕ) (t : Result Read Refused) (e : t ≡ token_at
     unfolding found_at found_by
     is_number value next f k = rw (← e, f) k
 
-    pub is_name_lem : (len next start l : ℕ) → t ≡ Ok (read.Identifier len next) → start ≡ at → l ≡ len → Is (found b (Name start l) next) d → Is (found_at b at) d
+    pub is_name_lem : (len next start l : ℕ) → t ≡ Ok (read.Identifier len next) → start ≡ at → l ≡ len → Is (found b (Name start l) next) d
+        → Is (found_at b at) d
     unfolding found_at found_by
     is_name_lem len next start l f g h k = rw (← e, f, ← g, ← h) k
 
@@ -105,8 +107,9 @@ module _ (b : List ℕ) (at : ℕ) (t : Result Read Refused) (e : t ≡ token_at
     is_unread r p f k = rw (← e, f) k
 
     -- a token that is none of the three that may stand there
-    pub is_other : (x : Read) → (at < length b) × (192 ≤ get_or b at 0) → t ≡ Ok x → ((value : num.Number) (next : ℕ) → x ≡ read.Number value next → ⊥) → ((len next : ℕ) → x ≡ read.Identifier len next → ⊥)
-        → ((count next : ℕ) → x ≡ read.String count next → ⊥) → Is (nothing_at b) d → Is (found_at b at) d
+    pub is_other : (x : Read) → (at < length b) × (192 ≤ get_or b at 0) → t ≡ Ok x → ((value : num.Number) (next : ℕ) → x ≡ read.Number value next → ⊥)
+        → ((len next : ℕ) → x ≡ read.Identifier len next → ⊥) → ((count next : ℕ) → x ≡ read.String count next → ⊥) → Is (nothing_at b) d
+        → Is (found_at b at) d
     is_other (read.Number value next) g f n i s k = absurd (n value next refl)
     is_other (read.Identifier len next) g f n i s k = absurd (i len next refl)
     is_other (read.String count next) g f n i s k = absurd (s count next refl)

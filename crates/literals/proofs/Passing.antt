@@ -48,7 +48,8 @@ pub is_as : {f g : Found} {d : Due} → f ≡ g → Is g d → Is f d
 is_as e i = rw e i
 
 -- a token that is neither a comment nor an operator
-over : (b : List ℕ) (at next past : ℕ) (t : Result Read Refused) → NoComment t → NoOperator t → pass_of t ≡ Ok next → past ≡ solid b next → Passes (found_by b at t) (record { next = past; unmarks = false })
+over : (b : List ℕ) (at next past : ℕ) (t : Result Read Refused) → NoComment t → NoOperator t → pass_of t ≡ Ok next → past ≡ solid b next
+    → Passes (found_by b at t) (record { next = past; unmarks = false })
 unfolding found_by pass_of is_unmark0
 over b at next past (Ok (read.Number v k)) c o e p = let z : k ≡ next = cc in record { next = p ∙ (rw z); unmarks = refl }
 over b at next past (Ok (read.Identifier l k)) c o e p = let z : k ≡ next = cc in record { next = p ∙ (rw z); unmarks = refl }
@@ -62,7 +63,8 @@ module _ (b : List ℕ) (at : ℕ) where
     operands : NoOperator (token_at b at)
     operands = no_operator b at form.Sequence refl g
 
-    pub sequence_over : (next past : ℕ) → NoComment (token_at b at) → t ≡ Ok next → past ≡ solid b next → Passes (found_at b at) (record { next = past; unmarks = false })
+    pub sequence_over : (next past : ℕ) → NoComment (token_at b at) → t ≡ Ok next → past ≡ solid b next
+        → Passes (found_at b at) (record { next = past; unmarks = false })
     unfolding found_at
     sequence_over next past c f p = over b at next past (token_at b at) c operands (sym e ∙ f) p
 
@@ -71,7 +73,8 @@ module _ (b : List ℕ) (at : ℕ) where
     unfolding found_at found_by is_unmark0
     number_over raw next past e p = rw (number_shown b at f raw next e h) (record { next = p; unmarks = refl })
 
-    pub number_found : (raw next : ℕ) (v : num.Number) → f ≡ form.Number raw next → v ≡ record { num = pos raw -ℤ pos bias; den = 1 } → found_at b at ≡ found b (Figure v) next
+    pub number_found : (raw next : ℕ) (v : num.Number) → f ≡ form.Number raw next → v ≡ record { num = pos raw -ℤ pos bias; den = 1 }
+        → found_at b at ≡ found b (Figure v) next
     unfolding found_at found_by
     number_found raw next v e g = rw (number_shown b at f raw next e h, g)
 
@@ -79,13 +82,15 @@ module _ (b : List ℕ) (at : ℕ) where
     unfolding found_at found_by
     operator_found n next e = rw (operator_shown b at f n next e h)
 
-    pub plain_found : (n next past : ℕ) → f ≡ form.Operator n next → past ≡ solid b next → role_of n ≡ role.Plain → found_at b at ≡ record { literal = Plain n; next = past }
+    pub plain_found : (n next past : ℕ) → f ≡ form.Operator n next → past ≡ solid b next → role_of n ≡ role.Plain
+        → found_at b at ≡ record { literal = Plain n; next = past }
     unfolding operator_by
     plain_found n next past e p i = operator_found n next e ∙ (rw (i, ← p))
 
 -- ---- an operator without a body
 
-pub bare_there : (b : List ℕ) (at : ℕ) (f : Form) (n next past : ℕ) (r : Role) → Shows b at f → f ≡ form.Operator n next → r ≡ role_of n → r ≡ role.Plain → past ≡ solid b next → Tells b at (Some (record { number = n; next = past }))
+pub bare_there : (b : List ℕ) (at : ℕ) (f : Form) (n next past : ℕ) (r : Role) → Shows b at f → f ≡ form.Operator n next → r ≡ role_of n → r ≡ role.Plain
+    → past ≡ solid b next → Tells b at (Some (record { number = n; next = past }))
 bare_there b at f n next past r h e i j p = record {
   there = plain_found b at f h n next past e p (sym i ∙ j);
   inside = omega (arith, p, solid_inside b next (operator_ends b at f n next e h).1);

@@ -82,7 +82,8 @@ module _ {b : List ℕ} {at : ℕ} where
   stands_role f n next (a_holder m inner x e p h) t = let z : m ≡ n = cc in inr (rw z at p)
 
   -- what skipping asks of it
-  pub operator_passes : (n next : ℕ) (a : Ahead) → LiteralThere b at → token_at b at ≡ Ok (Operator n next) → PastOperator b n next a.next → a.unmarks ≡ eqb n 192 → Passes (found_at b at) a
+  pub operator_passes : (n next : ℕ) (a : Ahead) → LiteralThere b at → token_at b at ≡ Ok (Operator n next) → PastOperator b n next a.next
+      → a.unmarks ≡ eqb n 192 → Passes (found_at b at) a
   unfolding found_at found_by operator_by holding_at holding_by is_unmark0
   operator_passes n next a h e p u = ⊎_elim plain holds (stands_role _ n next h e)
     where

@@ -59,7 +59,9 @@ went_next b n start (Err w) h = omega arith
 role_next : (b : List ℕ) (n next : ℕ) (r : Role) → next ≤ length b → (operator_by r b n next).next ≤ length b
 unfolding operator_by holding_at nothing_at
 role_next b n next role.Plain h = solid_inside b next h
-role_next b n next role.Holds h = went_next b n _ (body_at most_open b next) (went_lower (length b) 0 next (body_at most_open b next) (omega arith) (body_later most_open b next))
+role_next b n next role.Holds h =
+    let w = body_at most_open b next in
+    went_next b n _ w (went_lower (length b) 0 next w (omega arith) (body_later most_open b next))
 role_next b n next role.Closes h = omega arith
 role_next b n next role.Barred h = omega arith
 

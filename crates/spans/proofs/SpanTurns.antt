@@ -22,7 +22,8 @@ use Rattle.machine.specs.declared.Passed.TheVariants.{On, Closed}
 use Rattle.machine.specs.Limits.{most_open}
 use Rattle.machine.specs.declared.Role.{Role}
 use Rattle.machine.specs.declared.Role.TheVariants as role
-use Rattle.machine.specs.Skeleton.{opening, holders, barred, one_of, role_of, solid, follow, and_then, held, passing, due_by, due, literal_by, literals_from, body_at, literal_at}
+use Rattle.machine.specs.Skeleton.{opening, holders, barred, one_of, role_of, solid, follow, and_then, held, passing}
+use Rattle.machine.specs.Skeleton.{due_by, due, literal_by, literals_from, body_at, literal_at}
 use Rattle.machine.proofs.Inside.{EndsIn, token_inside, PassedIn, literal_later}
 use Rattle.machine.specs.Readable.{NoComment}
 use Rattle.machine.proofs.Comments.{one_at, solid_is, comments_are}
@@ -38,7 +39,7 @@ use Rattle.tokens.specs.Token.{sequence, token_at, token_of}
 use Rattle.tokens.specs.Passing.{pass_of}
 use Rattle.tokens.specs.declared.Form.TheVariants as form
 use Rattle.passing.specs.Known.{Reads}
-use Rattle.passing.proofs.Knowing.{past_operator}
+use Rattle.passing.proofs.Knowing.{past_operator, operator_pair}
 
 -- ---- room for literals
 
@@ -47,7 +48,8 @@ at_end_lem : (m : ℕ) (s : List ℕ) (p : ℕ) (f g : ℕ → Result ℕ Refuse
 unfolding literal_by and_then
 at_end_lem m s p f g h = rw (token_end s p h)
 
-then_alike : (n p : ℕ) (x : Result Passed Refused) (f g : ℕ → Result ℕ Refused) → PassedIn n p x → ((next : ℕ) → p < next → f next ≡ g next) → and_then x f ≡ and_then x g
+then_alike : (n p : ℕ) (x : Result Passed Refused) (f g : ℕ → Result ℕ Refused) → PassedIn n p x → ((next : ℕ) → p < next → f next ≡ g next)
+    → and_then x f ≡ and_then x g
 unfolding and_then
 then_alike n p (Ok (On next)) f g h e = e next h.0
 then_alike n p (Ok (Closed next)) f g h e = refl
@@ -58,7 +60,8 @@ enough : (m k l : ℕ) (s : List ℕ) (p : ℕ) → length s ≤ p + k → lengt
 unfolding literals_from
 enough m zero l s p h i = turn m zero s p h ∙ at_end_lem m s p _ _ (omega arith) ∙ sym (turn m l s p i)
 enough m (suc k) l s p h i =
-    then_alike (length s) p (literal_at m s p) _ _ (literal_later m s p) (λ next g. enough m k (l - 1) s next (omega arith) (omega arith)) ∙ sym (turn m l s p i)
+    then_alike (length s) p (literal_at m s p) _ _ (literal_later m s p) (λ next g. enough m k (l - 1) s next (omega arith) (omega arith))
+    ∙ sym (turn m l s p i)
 
 -- ---- the rest of the work
 
@@ -135,7 +138,8 @@ rest_opens k n s y next l e =
 
 -- ---- a token where a literal, or a body, is due
 
-body_stops : (k : ℕ) (s : List ℕ) (y : ℕ) (refusal : Refusal) (place : ℕ) → due opening s y ≡ Err (refusal_at refusal place) → body_at k s y ≡ Err (refusal_at refusal place)
+body_stops : (k : ℕ) (s : List ℕ) (y : ℕ) (refusal : Refusal) (place : ℕ) → due opening s y ≡ Err (refusal_at refusal place)
+    → body_at k s y ≡ Err (refusal_at refusal place)
 unfolding body_at follow
 body_stops zero s y refusal place e = rw e
 body_stops (suc k) s y refusal place e = rw e
@@ -209,7 +213,9 @@ Within s starts at count p = (0 < count) × Pending s starts at count (λ n. res
 
 -- a body is due at y, and then what follows it
 abbrev Awaits : List ℕ → List ℕ → ℕ → ℕ → ℕ → Type 0
-Awaits s starts at count y = (count ≡ 0 → body_at most_open s y ≡ body_at most_open s at) × Pending s starts at count (λ n. follow (body_at (16 - count) s y) (rest n (16 - count) s))
+Awaits s starts at count y =
+    (count ≡ 0 → body_at most_open s y ≡ body_at most_open s at)
+    × Pending s starts at count (λ n. follow (body_at (16 - count) s y) (rest n (16 - count) s))
 
 -- one or the other: what stands at p is a literal, a comment or a brace of one of these bodies
 pub data Where (s starts : List ℕ) (at count p : ℕ) : Type 0 where
@@ -231,7 +237,15 @@ fewer_open count h i = omega arith
 
 pub where_first : (s : List ℕ) (at : ℕ) → Where s (replicate 16 0) at 0 at
 where_first s at =
-    before_body ((λ _. refl), record { few = omega arith; long = length-replicate {A = ℕ} 16 0; first = λ l. absurd (omega arith); each = λ j l. absurd (omega arith) })
+    before_body (
+      (λ _. refl),
+      record {
+        few = omega arith;
+        long = length-replicate {A = ℕ} 16 0;
+        first = λ l. absurd (omega arith);
+        each = λ j l. absurd (omega arith);
+      },
+    )
 
 over_same : {x next : ℕ} → ◌≡◌ {A = Result ℕ Refused} (Ok x) (Ok next) → x ≡ next
 over_same e = cc
@@ -249,7 +263,8 @@ module _ {s starts : List ℕ} {at count : ℕ} where
 
   -- the body is known to end
   module _ (ends : BodyEnds s at) where
-    pending_goes : {w : ℕ → Result ℕ Refused} (refusal : Refusal) (place : ℕ) → Pending s starts at count w → 0 < count → ((n : ℕ) → w n ≡ Err (refusal_at refusal place)) → ⊥
+    pending_goes : {w : ℕ → Result ℕ Refused} (refusal : Refusal) (place : ℕ) → Pending s starts at count w → 0 < count
+        → ((n : ℕ) → w n ≡ Err (refusal_at refusal place)) → ⊥
     pending_goes refusal place i l e = never_stops refusal place ends.1 (sym (i.first l) ∙ i.each 0 l ∙ e (count - 1 - 0))
 
     module _ (y : ℕ) (i : Awaits s starts at count y) where
@@ -263,15 +278,18 @@ module _ {s starts : List ℕ} {at count : ℕ} where
       due_goes refusal place e = awaits_goes refusal place (body_stops (16 - count) s y refusal place e)
 
       awaits_room : (next : ℕ) → due opening s y ≡ Ok next → 0 < 16 - count
-      awaits_room next e = split 0 (16 - count) (λ l. l) (λ l. let z : 16 - count ≡ 0 = omega arith in absurd (awaits_goes TooDeep (solid s y) (rw z (body_deep s y next e))))
+      awaits_room next e =
+          split 0 (16 - count) (λ l. l)
+          (λ l. let z : 16 - count ≡ 0 = omega arith in absurd (awaits_goes TooDeep (solid s y) (rw z (body_deep s y next e))))
 
       module _ (next : ℕ) (e : due opening s y ≡ Ok next) where
         opens_each : (j : ℕ) → j < count + 1 → body_at (16 - j) s (get_or (set starts count y) j 0) ≡ rest (count + 1 - 1 - j) (16 - (count + 1)) s next
         opens_each j h =
             let l = awaits_room next e in
             let m : 16 - count - 1 ≡ 16 - (count + 1) = omega arith in
+            let o = rest_opens (16 - count) (count - 1 - j) s y next l e in
             split j count
-            (λ g. ap (body_at (16 - j) s) (get_or-set_other starts count j y 0 (λ z. omega arith)) ∙ i.1.each j g ∙ rest_opens (16 - count) (count - 1 - j) s y next l e
+            (λ g. ap (body_at (16 - j) s) (get_or-set_other starts count j y 0 (λ z. omega arith)) ∙ i.1.each j g ∙ o
             ∙ ap (λ (x : ℕ). rest x (16 - count - 1) s next) (more_around count j g) ∙ ap (λ (x : ℕ). rest (count + 1 - 1 - j) x s next) m)
             (λ g. let z : j ≡ count = omega arith in
             let n : 0 ≡ count + 1 - 1 - count = omega arith in
@@ -346,7 +364,8 @@ module _ {s starts : List ℕ} {at count : ℕ} where
         by_token (Err w) e = unread w.refusal w.place e h
 
     -- `{`
-    pub where_opens : (p : ℕ) → Where s starts at count p → token_at s p ≡ Ok (read.Operator 106 (p + 2)) → (count < 16) × Where s (set starts count p) at (count + 1) (p + 2)
+    pub where_opens : (p : ℕ) → Where s starts at count p → token_at s p ≡ Ok (read.Operator 106 (p + 2))
+        → (count < 16) × Where s (set starts count p) at (count + 1) (p + 2)
     where_opens p (in_body i) e = absurd (within_goes p i NotAllowed p (open_literal s p (16 - count) 106 (p + 2) e refl))
     where_opens p (before_body i) e =
         let d = open_due s p 0 106 (p + 2) e refl in
@@ -389,7 +408,10 @@ module _ {s starts : List ℕ} {at count : ℕ} where
           by_place : Where s starts at count p → Where s starts at count next
           by_place (in_body i) = in_body (within_on p i next (rw e))
           by_place (before_body i) =
-              before_body ((λ z. sym (body_comment most_open s p next e) ∙ i.0 z), pending_as i.1 (λ n. ap (λ (w : Result ℕ Refused). follow w (rest n (16 - count) s)) (body_comment (16 - count) s p next e)))
+              before_body (
+                (λ z. sym (body_comment most_open s p next e) ∙ i.0 z),
+                pending_as i.1 (λ n. ap (λ (w : Result ℕ Refused). follow w (rest n (16 - count) s)) (body_comment (16 - count) s p next e)),
+              )
 
       module _ (n next : ℕ) (e : token_at s p ≡ Ok (read.Operator n next)) (nb : NoBrace (Ok (read.Operator n next))) where
         holder_on : role_of n ≡ role.Holds → Where s starts at count next
@@ -448,11 +470,20 @@ over_inside s p next o = by_token (token_at s p) (token_inside s p) o
 
 -- ---- braces by their bytes
 
-pub brace_token : (s : List ℕ) (p n next : ℕ) → p + 1 < length s → get_or s p 0 ≡ 160 → n ≡ get_or s (p + 1) 0 → next ≡ p + 2 → token_at s p ≡ Ok (read.Operator n next)
+pub brace_token : (s : List ℕ) (p n next : ℕ) → p + 1 < length s → get_or s p 0 ≡ 160 → n ≡ get_or s (p + 1) 0 → next ≡ p + 2
+    → token_at s p ≡ Ok (read.Operator n next)
 unfolding token_at token_of
 brace_token s p n next h e f g =
     let z : 160 % 32 * 256 + get_or s (p + 1) 0 ≡ get_or s (p + 1) 0 = omega arith in
     rw (f, g) (simp (lt-ltb p (length s) (omega arith), e, lt-ltb (p + 1) (length s) h, z))
+
+-- a long operator there, by its two bytes
+module _ {s starts : List ℕ} {at count : ℕ} (ends : BodyEnds s at) (p : ℕ) (h : Where s starts at count p) (e : get_or s p 0 ≡ 160) where
+  pub long_pair : p + 1 < length s
+  long_pair = operator_pair s p (where_reads ends p h) (omega (arith, e)) (omega (arith, e))
+
+  pub long_token : {n next : ℕ} → n ≡ get_or s (p + 1) 0 → next ≡ p + 2 → token_at s p ≡ Ok (read.Operator n next)
+  long_token {n} {next} f g = brace_token s p n next long_pair e f g
 
 sequence_plain : (k at : ℕ) (j : Joined) → NoBrace (sequence k at j)
 unfolding sequence
@@ -468,7 +499,8 @@ no_brace s p f =
     (λ _. either NoBrace (ltb b 128) _ _ (λ _. either NoBrace (ltb (p + 1) (length s)) _ _ (λ _. tt) (λ _. tt))
     (λ h. either NoBrace (ltb b 160) _ _ (λ g. ((λ z. omega (arith, mod-lt b {m = 32} (lit< tt))), (λ z. omega (arith, mod-lt b {m = 32} (lit< tt)))))
     (λ g. either NoBrace (ltb b 192) _ _
-    (λ i. either NoBrace (ltb (p + 1) (length s)) _ _ (λ _. ((λ z. f (omega (arith, ltb-false b 160 g, ltb-true b 192 i))), (λ z. f (omega (arith, ltb-false b 160 g, ltb-true b 192 i))))) (λ _. tt))
+    (λ i. either NoBrace (ltb (p + 1) (length s)) _ _
+    (λ _. ((λ z. f (omega (arith, ltb-false b 160 g, ltb-true b 192 i))), (λ z. f (omega (arith, ltb-false b 160 g, ltb-true b 192 i))))) (λ _. tt))
     (λ _. sequence_plain (b % 32) p (joined_at s p)))))
     (λ _. tt)
 
@@ -508,9 +540,12 @@ module _ {s t : List ℕ} (x end : ℕ) (N : Noted s t) where
 
   note_ends : get_or (with_note t x end) (2 * (x % 64) + 1) 0 ≡ end
   unfolding with_note
-  note_ends = get_or-set_same (set t (2 * (x % 64)) x) (2 * (x % 64) + 1) end 0 (omega (arith, N.room, mod-lt x {m = 64} (lit< tt), length-set t (2 * (x % 64)) x))
+  note_ends =
+      get_or-set_same (set t (2 * (x % 64)) x) (2 * (x % 64) + 1) end 0
+      (omega (arith, N.room, mod-lt x {m = 64} (lit< tt), length-set t (2 * (x % 64)) x))
 
-  note_other : (i : ℕ) → i < 64 → (i ≡ x % 64 → ⊥) → (get_or (with_note t x end) (2 * i) 0 ≡ 0 → ⊥) → body_at most_open s (get_or (with_note t x end) (2 * i) 0) ≡ Ok (get_or (with_note t x end) (2 * i + 1) 0)
+  note_other : (i : ℕ) → i < 64 → (i ≡ x % 64 → ⊥) → (get_or (with_note t x end) (2 * i) 0 ≡ 0 → ⊥)
+      → body_at most_open s (get_or (with_note t x end) (2 * i) 0) ≡ Ok (get_or (with_note t x end) (2 * i + 1) 0)
   note_other i l f g =
       let a = note_else (2 * i) (λ z. f (omega arith)) (λ z. omega arith) in
       let b = note_else (2 * i + 1) (λ z. omega arith) (λ z. f (omega arith)) in

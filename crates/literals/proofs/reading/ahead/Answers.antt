@@ -24,4 +24,6 @@ returns-in-Operator c =
 
 pub returns-in-Sequence : goal.returns-in-Sequence
 returns-in-Sequence c =
-    let g = sequence_shown _ _ _ c.in-Sequence.is c.form.ensures in sequence_over _ _ g _ refl _ _ (stands_solid _ c.requires.1) (ends_there _ _ g.1 (stands_reads _ c.requires.1) _ c.extent.ensures) c.past_comments-in-Sequence.ensures
+    let g = sequence_shown _ _ _ c.in-Sequence.is c.form.ensures in
+    let e = ends_there _ _ g.1 (stands_reads _ c.requires.1) _ c.extent.ensures in
+    sequence_over _ _ g _ refl _ _ (stands_solid _ c.requires.1) e c.past_comments-in-Sequence.ensures

@@ -14,7 +14,8 @@ returns-in-Number c = is_number _ _ _ c.read_token.ensures _ _ _ (c.in-Ok.is ∙
 
 pub returns-in-Identifier : goal.returns-in-Identifier
 returns-in-Identifier c =
-    is_name_lem _ _ _ c.read_token.ensures _ _ _ _ _ (c.in-Ok.is ∙ ap Ok c.in-Identifier.is) c.word.ensures c.word-in-Identifier.ensures c.found-in-Identifier.ensures
+    let t = c.in-Ok.is ∙ ap Ok c.in-Identifier.is in
+    is_name_lem _ _ _ c.read_token.ensures _ _ _ _ _ t c.word.ensures c.word-in-Identifier.ensures c.found-in-Identifier.ensures
 
 pub returns-in-String : goal.returns-in-String
 returns-in-String c =
