@@ -61,7 +61,8 @@ done_refused : {X : Type 0} {w : Refused} {n : ℕ} → Ok n ≡ Err w → X
 done_refused e = never (cc)
 
 module _ (s : List ℕ) (allowance : ℤ) (enough : Bool) (t : List ℕ) where
-  refuses : (w : Refusal) (p : ℕ) (r : Outcome) → r ≡ Err (refusal_at w p) → ((rest : List (List ℕ) → Verdict) → admitted s allowance enough rest ≡ halted w p) → Admitted s allowance enough t r
+  refuses : (w : Refusal) (p : ℕ) (r : Outcome) → r ≡ Err (refusal_at w p)
+      → ((rest : List (List ℕ) → Verdict) → admitted s allowance enough rest ≡ halted w p) → Admitted s allowance enough t r
   refuses w p r e f = record {
     halts = λ v q g rest. let z = refused_one (sym e ∙ g) in rw (← z.0, ← z.1) (f rest);
     goes = λ n g. refused_done (sym e ∙ g);
@@ -75,7 +76,8 @@ module _ (s : List ℕ) (allowance : ℤ) (enough : Bool) (t : List ℕ) where
   unfolding admitted
   too_short r e h k = refuses TableTooShort 0 r e (λ rest. rw (le-leb (length s) longest h, k))
 
-  pub not_allowed : (r : Outcome) → r ≡ Err (refusal_at BadAllowance 0) → length s ≤ longest → enough ≡ true → allowed allowance ≡ false → Admitted s allowance enough t r
+  pub not_allowed : (r : Outcome) → r ≡ Err (refusal_at BadAllowance 0) → length s ≤ longest → enough ≡ true → allowed allowance ≡ false
+      → Admitted s allowance enough t r
   unfolding admitted
   not_allowed r e h k a = refuses BadAllowance 0 r e (λ rest. rw (le-leb (length s) longest h, k, a))
 

@@ -47,7 +47,8 @@ past zero s p h = rw (token_end s p (omega arith))
 past (suc k) s p h = let e : suc k - 1 ≡ k = omega arith in rw e
 
 -- where no comment stands, the place is found
-pub stands : (k : ℕ) (s : List ℕ) (p at : ℕ) (t : Result Read Refused) → length s ≤ p + k → solid_from k s p ≡ solid s at → token_at s p ≡ t → NoComment t → p ≡ solid s at
+pub stands : (k : ℕ) (s : List ℕ) (p at : ℕ) (t : Result Read Refused) → length s ≤ p + k → solid_from k s p ≡ solid s at → token_at s p ≡ t
+    → NoComment t → p ≡ solid s at
 stands k s p at t h e f n = sym (stays t p (solid_from (k - 1) s) n) ∙ (rw f at (sym (past k s p h) ∙ e))
 
 -- a token that is no comment
@@ -59,7 +60,9 @@ solid_kind (read.Operator n next) h = tt
 solid_kind (read.Comment next) h = h next refl
 
 -- what holds of every token but one kind holds of a sequence that is not of that kind
-module _ (P : Result Read Refused → Type 0) (at : ℕ) (number : (v : Number) (next : ℕ) → P (Ok (read.Number v next))) (name : (len next : ℕ) → P (Ok (read.Identifier len next))) (text : (count next : ℕ) → P (Ok (read.String count next)))
+module _ (P : Result Read Refused → Type 0) (at : ℕ)
+    (number : (v : Number) (next : ℕ) → P (Ok (read.Number v next)))
+    (name : (len next : ℕ) → P (Ok (read.Identifier len next))) (text : (count next : ℕ) → P (Ok (read.String count next)))
     (unread : (refusal : Refusal) (place : ℕ) → P (Err (refusal_at refusal place))) where
   ruled_so : (good : Bool) (t : Result Read Refused) → P t → P (ruled at good t)
   ruled_so true t h = h
@@ -180,7 +183,8 @@ cut s p m e = rw e
 
 -- what `form_at` answered, f, and what it says
 module _ (s : List ℕ) (p : ℕ) (f : Form) where
-  pub number_shown : (raw next : ℕ) → f ≡ form.Number raw next → Shows s p f → token_at s p ≡ Ok (read.Number (record { num = pos raw -ℤ pos bias; den = 1 }) next)
+  pub number_shown : (raw next : ℕ) → f ≡ form.Number raw next → Shows s p f
+      → token_at s p ≡ Ok (read.Number (record { num = pos raw -ℤ pos bias; den = 1 }) next)
   number_shown raw next e h = rw e at h
 
   pub operator_shown : (n next : ℕ) → f ≡ form.Operator n next → Shows s p f → token_at s p ≡ Ok (read.Operator n next)
@@ -213,7 +217,8 @@ module _ (s : List ℕ) (p : ℕ) (f : Form) where
     unfolding passing
     closing n next r e h g k = operator_literal n next r e h g ∙ rw k
 
-    pub barred : (n next : ℕ) (r : Role) → f ≡ form.Operator n next → Shows s p f → r ≡ role_of n → r ≡ role.Barred → literal_at m s p ≡ Err (refusal_at NotAllowed p)
+    pub barred : (n next : ℕ) (r : Role) → f ≡ form.Operator n next → Shows s p f → r ≡ role_of n → r ≡ role.Barred
+        → literal_at m s p ≡ Err (refusal_at NotAllowed p)
     unfolding passing
     barred n next r e h g k = operator_literal n next r e h g ∙ rw k
 
@@ -221,13 +226,15 @@ module _ (s : List ℕ) (p : ℕ) (f : Form) where
     unfolding passing
     held_there n next r e h g k = operator_literal n next r e h g ∙ rw k
 
-    pub holding : (n next : ℕ) (r : Role) (w x : Result ℕ Refused) → f ≡ form.Operator n next → Shows s p f → r ≡ role_of n → r ≡ role.Holds → w ≡ body_at m s next → w ≡ x → literal_at m s p ≡ held x
+    pub holding : (n next : ℕ) (r : Role) (w x : Result ℕ Refused) → f ≡ form.Operator n next → Shows s p f → r ≡ role_of n → r ≡ role.Holds
+        → w ≡ body_at m s next → w ≡ x → literal_at m s p ≡ held x
     holding n next r w x e h g k b d = held_there n next r e h g k ∙ ap held (sym b ∙ d)
 
     pub passed : (q x : Result ℕ Refused) → f ≡ form.Sequence → Shows s p f → q ≡ pass_of (token_at s p) → q ≡ x → literal_at m s p ≡ passed_by x
     passed q x e h g k = by_pass p (body_at m s) (token_at s p) (no_operator e h) ∙ ap passed_by (sym g ∙ k)
 
-  pub passed_due : (n : ℕ) (q x : Result ℕ Refused) → f ≡ form.Sequence → Shows s p f → q ≡ pass_of (token_at s p) → q ≡ x → stopped_by p x ≡ due_by n p (token_at s p)
+  pub passed_due : (n : ℕ) (q x : Result ℕ Refused) → f ≡ form.Sequence → Shows s p f → q ≡ pass_of (token_at s p) → q ≡ x
+      → stopped_by p x ≡ due_by n p (token_at s p)
   passed_due n q x e h g k = sym (not_due n p (token_at s p) (no_operator e h) ∙ ap (stopped_by p) (sym g ∙ k))
 
 -- a short number
@@ -253,7 +260,8 @@ pub full : (left : ℕ) (s : List ℕ) (at next : ℕ) → due opening s at ≡ 
 unfolding body_at follow
 full left s at next e h = rw (h, e)
 
-pub entered : (left : ℕ) (s : List ℕ) (at next : ℕ) → due opening s at ≡ Ok next → 0 < left → literals_from (length s) (literal_at (left - 1) s) next ≡ body_at left s at
+pub entered : (left : ℕ) (s : List ℕ) (at next : ℕ) → due opening s at ≡ Ok next → 0 < left
+    → literals_from (length s) (literal_at (left - 1) s) next ≡ body_at left s at
 unfolding body_at follow
 entered zero s at next e h = absurd (omega arith)
 entered (suc k) s at next e h = let f : suc k - 1 ≡ k = omega arith in rw (e, f)

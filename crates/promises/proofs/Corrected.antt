@@ -47,19 +47,22 @@ pub done_tells : {s : List ℕ} {a : ℤ} {scratch scratch' rows rows' : List �
 unfolding run_verdict run_answer bodies_in
 done_tells {s} {a} {scratch} {scratch'} {rows} {rows'} {c} r = by (run_verdict s a scratch rows) refl r.answer
   where
-    by : (v : Verdict) → run_verdict s a scratch rows ≡ v → Ok c ≡ run_answer v → (allowed a ≡ true) × (eqb (outcome (preamble_end (nat_abs a) (preamble_of (bodies_in s)))) 3 ≡ false)
+    by : (v : Verdict) → run_verdict s a scratch rows ≡ v → Ok c ≡ run_answer v
+        → (allowed a ≡ true) × (eqb (outcome (preamble_end (nat_abs a) (preamble_of (bodies_in s)))) 3 ≡ false)
     by (accepted b) e f = let g = admitted_tells s a _ (finished a) b e in (g.0, sound_tells s (skeleton_of s) a b g.1)
     by unfinished e f = never (cc)
     by (halted w p) e f = never (cc)
 
 -- ---- what load tells
 
-pub load_tells : {s : List ℕ} {c : ℕ} → Loads s (Ok c) → (leb (length s) longest ≡ true) × (length (bodies_in s) ≡ c + 1) × ((rest : List (List ℕ) → Verdict) → on_sound s (skeleton_of s) rest ≡ rest (bodies_in s))
+pub load_tells : {s : List ℕ} {c : ℕ} → Loads s (Ok c)
+    → (leb (length s) longest ≡ true) × (length (bodies_in s) ≡ c + 1) × ((rest : List (List ℕ) → Verdict) → on_sound s (skeleton_of s) rest ≡ rest (bodies_in s))
 unfolding load_answer bodies_in pages_in bodies_by on_sound
 load_tells {s} {c} l =
     by_test (leb (length s) longest) (λ e. by e (skeleton_of s) (skeleton_fits s) (rw e at l.answer)) (λ e. never (let z = rw e at l.answer in cc))
   where
-    by : leb (length s) longest ≡ true → (x : Skeleton) → Fits x → Ok c ≡ pages_in x → (leb (length s) longest ≡ true) × (length (bodies_by s x) ≡ c + 1) × ((rest : List (List ℕ) → Verdict) → on_sound s x rest ≡ rest (bodies_by s x))
+    by : leb (length s) longest ≡ true → (x : Skeleton) → Fits x → Ok c ≡ pages_in x
+        → (leb (length s) longest ≡ true) × (length (bodies_by s x) ≡ c + 1) × ((rest : List (List ℕ) → Verdict) → on_sound s x rest ≡ rest (bodies_by s x))
     by e (sound spans) h f = let z : c ≡ length spans - 1 = cc in (e, omega (arith, length_bodies s spans, h.0), λ rest. refl)
     by e (refused w p) h f = never (cc)
 
@@ -75,7 +78,8 @@ module _ (s : List ℕ) (a : ℤ) (c : ℕ) (l : Loads s (Ok c)) (f : allowed a 
     unfolding finished
     ended = rw on
 
-    pub runs_done : {scratch scratch' rows rows' : List ℕ} {r : Outcome} → Runs s a scratch scratch' rows rows' r → scratch_size ≤ length scratch → rows_size ≤ length rows → r ≡ Ok c
+    pub runs_done : {scratch scratch' rows rows' : List ℕ} {r : Outcome} → Runs s a scratch scratch' rows rows' r → scratch_size ≤ length scratch
+        → rows_size ≤ length rows → r ≡ Ok c
     unfolding run_verdict run_answer
     runs_done {scratch} {scratch'} {rows} {rows'} {r} p x y =
         let v : run_verdict s a scratch rows ≡ accepted (bodies_in s) = judged _ (finished a) (rw (le-leb scratch_size (length scratch) x, le-leb rows_size (length rows) y)) ∙ ended in

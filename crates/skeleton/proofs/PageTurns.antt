@@ -36,7 +36,8 @@ use Rattle.skeleton.specs.Turns.{page_or, page_turn, end_turn, turn_by, turn_at}
 -- ---- a turn
 
 -- no operator and no comment
-pub barred : (t : Read) (s : List ℕ) (had at : ℕ) → ((n next : ℕ) → t ≡ Operator n next → ⊥) → ((next : ℕ) → t ≡ Comment next → ⊥) → Err (refusal_at NotAllowed at) ≡ turn_by s had at (Ok t)
+pub barred : (t : Read) (s : List ℕ) (had at : ℕ) → ((n next : ℕ) → t ≡ Operator n next → ⊥) → ((next : ℕ) → t ≡ Comment next → ⊥)
+    → Err (refusal_at NotAllowed at) ≡ turn_by s had at (Ok t)
 unfolding turn_by
 barred (Number value next) s had at f g = refl
 barred (Identifier len next) s had at f g = refl
@@ -102,7 +103,8 @@ module _ (n at : ℕ) where
   page_onward (Ok next) h = (h.0, h.1)
   page_onward (Err w) h = tt
 
-  turn_by_lem : (s : List ℕ) (bodies : ℕ) → WentIn n at (body_at most_open s at) → (t : Result Read Refused) → EndsIn n at t → Onward n at (turn_by s bodies at t)
+  turn_by_lem : (s : List ℕ) (bodies : ℕ) → WentIn n at (body_at most_open s at) → (t : Result Read Refused) → EndsIn n at t
+      → Onward n at (turn_by s bodies at t)
   unfolding turn_by page_turn end_turn
   turn_by_lem s bodies w (Ok (Number value next)) h = tt
   turn_by_lem s bodies w (Ok (Identifier len next)) h = tt
@@ -122,7 +124,8 @@ onward_by s had p t e = rw e at (turn_onward s had p)
 
 -- ---- a body more
 
-page_or_lem : {next : ℕ} (b : Bool) (w : Result ℕ Refused) (at : ℕ) → cond b (page_or w) (Err (refusal_at TooManyPages at)) ≡ Ok (Page next) → (b ≡ true) × (w ≡ Ok next)
+page_or_lem : {next : ℕ} (b : Bool) (w : Result ℕ Refused) (at : ℕ) → cond b (page_or w) (Err (refusal_at TooManyPages at)) ≡ Ok (Page next)
+    → (b ≡ true) × (w ≡ Ok next)
 unfolding page_or
 page_or_lem true (Ok x) at e = (refl, cc)
 page_or_lem true (Err w) at e = never (cc)
@@ -221,14 +224,18 @@ module _ (s t₀ : List ℕ) (at : ℕ) (t : List ℕ) (p had : ℕ) (c : Counti
   pub counting_aside : (next : ℕ) → turn_at s had p ≡ Ok (Aside next) → (p < next) × (next ≤ length s) × Counting s t₀ at t next had
   unfolding turned
   counting_aside next e =
-      let g = onward_by s had p (Ok (Aside next)) e in
-      (g.0, g.1, record { room = c.room - 1; enough = omega (arith, g.0, g.1, c.enough); few = c.few; some = c.some; long = c.long; same = turn_said (Ok (Aside next)) e })
+      let g = onward_by s had p (Ok (Aside next)) e in (
+        g.0,
+        g.1,
+        record { room = c.room - 1; enough = omega (arith, g.0, g.1, c.enough); few = c.few; some = c.some; long = c.long; same = turn_said (Ok (Aside next)) e },
+      )
 
   -- past a page
   pub page_room : (next : ℕ) → 1026 ≤ length t₀ → turn_at s had p ≡ Ok (Page next) → (2 * had + 2 ≤ length t) × (p + 4 ≤ next)
   page_room next l e = let f = page_fits s had p next e in (omega (arith, f.0, c.long), f.1)
 
-  pub counting_page : (next : ℕ) (t' : List ℕ) → 1026 ≤ length t₀ → turn_at s had p ≡ Ok (Page next) → t' ≡ noted t had p next → (p < next) × (next ≤ length s) × Counting s t₀ at t' next (had + 1)
+  pub counting_page : (next : ℕ) (t' : List ℕ) → 1026 ≤ length t₀ → turn_at s had p ≡ Ok (Page next) → t' ≡ noted t had p next
+      → (p < next) × (next ≤ length s) × Counting s t₀ at t' next (had + 1)
   unfolding turned noted
   counting_page next t' l e n =
       let g = onward_by s had p (Ok (Page next)) e in
@@ -258,7 +265,10 @@ module _ (s t₀ : List ℕ) (at : ℕ) (t : List ℕ) (p had : ℕ) (c : Counti
     unfolding turned pages_in
     counting_ended e =
         let j = turn_said (Ok Ended) e q h in
-        record { answer = ap (λ (n : ℕ). Ok (n - 1)) (sym j.1) ∙ ap pages_in j.2; placed = λ spans f. let z : j.0 ≡ spans = same_sound (j.2 ∙ f) in rw (← z) j.3 }
+        record {
+          answer = ap (λ (n : ℕ). Ok (n - 1)) (sym j.1) ∙ ap pages_in j.2;
+          placed = λ spans f. let z : j.0 ≡ spans = same_sound (j.2 ∙ f) in rw (← z) j.3;
+        }
 
     pub counting_halts : (w : Refused) → turn_at s had p ≡ Err w → Surveyed s t (pages_from (length s) s at (q ∷ [])) (Err w)
     unfolding turned pages_in
@@ -271,7 +281,8 @@ module _ (s : List ℕ) (t : List ℕ) where
   unfolding skeleton_of
   headless e = halted_so s t (refusal_at BadHeader 0) (skeleton_of s) (rw e)
 
-  pub begun : (next : ℕ) (r : Outcome) → starts header s ≡ true → due beginning s 21 ≡ Ok next → Surveyed s t (preamble_at s next) r → Surveyed s t (skeleton_of s) r
+  pub begun : (next : ℕ) (r : Outcome) → starts header s ≡ true → due beginning s 21 ≡ Ok next → Surveyed s t (preamble_at s next) r
+      → Surveyed s t (skeleton_of s) r
   unfolding skeleton_of onward
   begun next r e f g = rw (e, f) g
 

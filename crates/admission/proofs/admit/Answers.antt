@@ -16,7 +16,8 @@ returns-then-not-enough c = too_short _ _ _ _ _ (ap Err c.met_at-then-not-enough
 pub returns-then-not-within : goal.returns-then-not-within
 unfolding allowed
 returns-then-not-within c =
-    not_allowed _ _ _ _ _ (ap Err c.met_at-then-not-within.ensures) c.if-s-gt-LONGEST.false c.if-not-enough.false (asked (pos 1) (to_z-of_z c.ranges.allowance) refl c.within.ensures c.if-not-within.true)
+    let e = asked (pos 1) (to_z-of_z c.ranges.allowance) refl c.within.ensures c.if-not-within.true in
+    not_allowed _ _ _ _ _ (ap Err c.met_at-then-not-within.ensures) c.if-s-gt-LONGEST.false c.if-not-enough.false e
 
 pub returns : goal.returns
 unfolding allowed
