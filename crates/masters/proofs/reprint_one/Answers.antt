@@ -1,4 +1,6 @@
 -- `reprint_one` meets its contract. Assumes nothing.
+use Rattle.std.specs.Prelude.{Err}
+use mathlib.Core.Path.{ap}
 use native.Mathlib.Omega.{arith}
 use native.Mathlib.Nat.{le_refl}
 use Rattle.prints.proofs.Walking.{page_asks, whole_at}
@@ -11,7 +13,7 @@ preamble_of-q-requires c =
 
 pub returns-then-outcome_of-eq-OUT_OF_STEPS : goal.returns-then-outcome_of-eq-OUT_OF_STEPS
 returns-then-outcome_of-eq-OUT_OF_STEPS c =
-    λ bodies l h. one_unfinished c.args.s.now c.args.places.now _ _ _ _ l c.preamble_of-q.ensures _ _ _ _ _ _ c.outcome_of.ensures c.if-outcome_of-eq-OUT_OF_STEPS.true c.wipe.ensures c.refused.ensures
+    λ bodies l h. one_unfinished c.args.s.now c.args.places.now _ _ _ _ l c.preamble_of-q.ensures _ _ _ _ _ _ c.outcome_of.ensures c.if-outcome_of-eq-OUT_OF_STEPS.true c.wipe.ensures (ap Err c.met_at.ensures)
 
 pub returns : goal.returns
 returns c =

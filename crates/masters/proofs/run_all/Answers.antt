@@ -1,4 +1,6 @@
 -- `run_all` meets its contract. Assumes nothing.
+use Rattle.std.specs.Prelude.{Err}
+use mathlib.Core.Path.{ap}
 use native.Mathlib.Omega.{arith}
 use Rattle.prints.proofs.Walking.{whole_at}
 use Rattle.masters.proofs.EveryBody.{ready_of, all_unfinished, all_ran}
@@ -17,7 +19,7 @@ preamble_of-q-requires c =
 
 pub returns-then-outcome_of-eq-OUT_OF_STEPS : goal.returns-then-outcome_of-eq-OUT_OF_STEPS
 returns-then-outcome_of-eq-OUT_OF_STEPS c =
-    λ bodies l m. all_unfinished c.args.s.now c.args.places.now _ _ _ _ l c.preamble_of-q.ensures _ _ _ _ c.outcome_of.ensures c.if-outcome_of-eq-OUT_OF_STEPS.true c.wipe.ensures c.refused.ensures
+    λ bodies l m. all_unfinished c.args.s.now c.args.places.now _ _ _ _ l c.preamble_of-q.ensures _ _ _ _ c.outcome_of.ensures c.if-outcome_of-eq-OUT_OF_STEPS.true c.wipe.ensures (ap Err c.met_at.ensures)
 
 pub every_page-requires : goal.every_page-requires
 every_page-requires c = (c.requires.0, ready_of _ _ _ _ c.preamble_of-q.ensures, c.requires.1, c.requires.2, search rules)
