@@ -4,10 +4,9 @@ use Prim.Native.Nat.{ℕ}
 use mathlib.Core.Path.{◌≡◌}
 use mathlib.Core.List.{List}
 use lib.IntN.{ℤ}
-use Rattle.tokens.specs.Refusal.{Outcome}
-use Rattle.tokens.specs.Refusal.{answer_number, answer_value}
+use Rattle.tokens.specs.Refusal.{Outcome, answer_number, answer_value}
 use Rattle.machine.specs.Promise.{Runs, Reprints}
-use Rattle.numbers.specs.Fraction.{Answer}
+use Rattle.host.specs.declared.Answer.{Answer}
 use Rattle.host.specs.Told.{Told}
 
 pub run_told : {s scratch scratch' rows rows' : List ℕ} {a a' : ℤ} {outcome : Outcome} {r : Answer} → Runs s a' scratch scratch' rows rows' outcome → a' ≡ a

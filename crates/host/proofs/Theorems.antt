@@ -3,13 +3,12 @@ use Prim.Native.Nat.{ℕ}
 use mathlib.Core.Path.{◌≡◌, sym, ap, ap₂, ◌∙◌}
 use mathlib.Core.List.{List}
 use lib.IntN.{ℤ}
-use Rattle.tokens.specs.Refusal.{Outcome}
-use Rattle.tokens.specs.Refusal.{answer_number, answer_value}
+use Rattle.tokens.specs.Refusal.{Outcome, answer_number, answer_value}
 use Rattle.lists.specs.Promise.{Writes, ReadsBack}
 use Rattle.lists.proofs.Theorems.{write_one, read_back_one}
 use Rattle.machine.specs.Promise.{Loads, Runs, Reprints}
 use Rattle.machine.proofs.Theorems.{load_one, run_one, reprint_one}
-use Rattle.numbers.specs.Fraction.{Answer}
+use Rattle.host.specs.declared.Answer.{Answer}
 use Rattle.host.specs.Told.{Told}
 
 -- one outcome is told in one way

@@ -1,8 +1,7 @@
 -- What a C host is told: an outcome as its number and its value (01, Outcomes and numbers). Assumes nothing.
 use Rattle.std.specs.Prelude.{◌≡◌}
-use Rattle.tokens.specs.Refusal.{Outcome}
-use Rattle.tokens.specs.Refusal.{answer_number, answer_value}
-use Rattle.numbers.specs.Fraction.{Answer}
+use Rattle.tokens.specs.Refusal.{Outcome, answer_number, answer_value}
+use Rattle.host.specs.declared.Answer.{Answer}
 
 -- the answer r tells an outcome for which a call's promise is kept
 pub record Told (Promise : Outcome → Type 0) (r : Answer) : Type 0 where

@@ -18,12 +18,14 @@ pub struct Answer {
     pub value: u64,
 }
 
-fn told(outcome: Outcome) -> Answer
-    ensures { (result.no ≡ answer_number outcome) × (result.value ≡ answer_value outcome) }
-{
-    Answer {
-        no: refusals::answer_number(outcome),
-        value: refusals::answer_value(outcome) as u64,
+impl From<Outcome> for Answer {
+    ghost from_gives = { λ outcome answer. (answer.no ≡ answer_number outcome) × (answer.value ≡ answer_value outcome) };
+
+    fn from(outcome: Outcome) -> Answer {
+        Answer {
+            no: refusals::answer_number(outcome),
+            value: refusals::answer_value(outcome) as u64,
+        }
     }
 }
 
@@ -31,14 +33,14 @@ fn told(outcome: Outcome) -> Answer
 pub fn pz_load(master: &[u8]) -> Answer
     ensures { Told (Loads master.now) result }
 {
-    told(skeleton::pages::load(master))
+    Answer::from(skeleton::pages::load(master))
 }
 
 // Runs every body of a master and answers the page count.
 pub fn pz_run(master: &[u8], allowance: i64, scratch: &mut [u8], rows: &mut [u8]) -> Answer
     ensures { Told (Runs master.now allowance scratch.old scratch.new rows.old rows.new) result }
 {
-    told(book::calls::run(master, allowance, scratch, rows))
+    Answer::from(book::calls::run(master, allowance, scratch, rows))
 }
 
 // Runs one page of a master, or the preamble alone where `page` is 0, and answers `page`.
@@ -52,19 +54,19 @@ pub fn pz_reprint(
 ) -> Answer
     ensures { Told (Reprints master.now allowance page scratch.old scratch.new rows.old rows.new sections.old sections.new) result }
 {
-    told(book::calls::reprint(master, allowance, page, scratch, rows, sections))
+    Answer::from(book::calls::reprint(master, allowance, page, scratch, rows, sections))
 }
 
 // Writes a token list and answers the written length.
 pub fn pz_write(list: &[u8], text: &[u8], out: &mut [u8]) -> Answer
     ensures { Told (Writes list.now text.now out.old out.new) result }
 {
-    told(lists::writing::write(list, text, out))
+    Answer::from(lists::writing::write(list, text, out))
 }
 
 // Reads a token list back and answers the token count.
 pub fn pz_read_back(bytes: &[u8], list: &mut [u8], text: &mut [u8]) -> Answer
     ensures { Told (ReadsBack bytes.now list.old list.new text.old text.new) result }
 {
-    told(back::reading::read_back(bytes, list, text))
+    Answer::from(back::reading::read_back(bytes, list, text))
 }
