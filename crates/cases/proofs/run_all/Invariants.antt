@@ -1,8 +1,9 @@
-use Rattle.std.proofs.Common.{length, ◌-◌, ◌≤◌}
+use Rattle.std.proofs.Common.{◌+◌, ◌≤◌, length}
+use Rattle.std.specs.Iterator.{at_most}
 use Rattle.cases.proofs.run_all.Given as goal
 
-abbrev pub invariant-loop-at : goal.invariant-loop-at
-invariant-loop-at g l = (l.at ≤ length l.bytes) × (l.right ≤ l.at) × (l.wrong ≤ l.at)
-
-abbrev pub decreases-loop-at : goal.decreases-loop-at
-decreases-loop-at g l = length l.bytes - l.at
+abbrev pub invariant-loop-bytes : goal.invariant-loop-bytes
+invariant-loop-bytes g l =
+    (goal.iterator-loop-bytes g).can_next l.bytes-iterator
+    × (goal.iterator-loop-bytes g).is_finite l.bytes-iterator
+    × (l.right + l.wrong + length l.bytes-iterator.0 ≤ length l.records)
