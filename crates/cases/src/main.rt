@@ -10,6 +10,16 @@ use std::{fs, io};
 use tokens::Outcome;
 use tokens::refusals::{answer_number, answer_value};
 
+// The longest data file.
+const LONGEST: usize = 196608;
+
+// The longest tables.
+const FIRST: usize = 49152;
+
+const SECOND: usize = 16384;
+
+const THIRD: usize = 24576;
+
 // What every byte of a lent table holds before a call.
 const LENT: u8 = 165;
 
@@ -90,57 +100,40 @@ impl From<u32> for Call {
     }
 }
 
-// Of three tables: how long each is, or what is left in each.
+// A case, as its record says it.
 #[derive(Clone, Copy)]
-struct Three<T> {
-    first: T,
-    second: T,
-    third: T,
-}
-
-// A case.
-#[derive(Clone, Copy)]
-struct Record<'a> {
+struct Case<'a> {
     call: Call,
 
-    // Number and value of the answer.
+    // Number and value.
     answer: (u32, usize),
-
-    // The arguments.
     allowance: i64,
     page: i64,
 
-    // The tables lent.
-    sizes: Three<usize>,
+    // How long each table is that is lent, and what is left in it.
+    lengths: [usize; 3],
+    left: [&'a [u8]; 3],
     name: &'a [u8],
-    given: &'a [u8],
+    input: &'a [u8],
     text: &'a [u8],
-
-    // What is left in each table.
-    left: Three<&'a [u8]>,
 }
 
-impl<'a> Record<'a> {
-    fn read(bytes: &'a [u8]) -> Record<'a> {
-        let mut texts = Texts(bytes.get(TEXTS..).unwrap_or(&[]));
-        Record {
-            call: Call::from(word(bytes, 0)),
-            answer: (word(bytes, 1), number(bytes, 2)),
-            allowance: signed(bytes, 3),
-            page: signed(bytes, 4),
-            sizes: Three {
-                first: number(bytes, 5),
-                second: number(bytes, 6),
-                third: number(bytes, 7),
-            },
-            name: texts.text(),
-            given: texts.text(),
-            text: texts.text(),
-            left: Three {
-                first: texts.text(),
-                second: texts.text(),
-                third: texts.text(),
-            },
+impl<'a> Case<'a> {
+    fn read(record: &'a [u8]) -> Case<'a> {
+        let mut texts = Texts(record.get(TEXTS..).unwrap_or(&[]));
+        let name = texts.text();
+        let input = texts.text();
+        let text = texts.text();
+        Case {
+            call: Call::from(word(record, 0)),
+            answer: (word(record, 1), number(record, 2)),
+            allowance: signed(record, 3),
+            page: signed(record, 4),
+            lengths: [number(record, 5), number(record, 6), number(record, 7)],
+            left: [texts.text(), texts.text(), texts.text()],
+            name,
+            input,
+            text,
         }
     }
 }
@@ -158,7 +151,7 @@ fn holds(table: &[u8], runs: &[u8]) -> bool {
         .is_some_and(|rest| rest.iter().all(|b| *b == LENT))
 }
 
-// So many bytes of a table, or all where it is shorter, each as it is lent.
+// The front of a table, so long or all of it, with each byte as it is lent.
 fn lend<const N: usize>(table: &mut [u8; N], len: usize) -> &mut [u8] {
     let end = len.min(N);
     let lent = &mut table[..end];
@@ -168,22 +161,23 @@ fn lend<const N: usize>(table: &mut [u8; N], len: usize) -> &mut [u8] {
 
 #[derive(Drop)]
 struct Tables {
-    first: [u8; 49152],
-    second: [u8; 16384],
-    third: [u8; 24576],
+    first: [u8; FIRST],
+    second: [u8; SECOND],
+    third: [u8; THIRD],
 }
 
 impl Tables {
-    // As long as a record asks.
-    fn lend(&mut self, sizes: Three<usize>) -> Lent<'_> {
+    fn lend(&mut self, lengths: [usize; 3]) -> Lent<'_> {
+        let [first, second, third] = lengths;
         Lent {
-            first: lend(&mut self.first, sizes.first),
-            second: lend(&mut self.second, sizes.second),
-            third: lend(&mut self.third, sizes.third),
+            first: lend(&mut self.first, first),
+            second: lend(&mut self.second, second),
+            third: lend(&mut self.third, third),
         }
     }
 }
 
+// The tables of one call.
 #[derive(Drop)]
 struct Lent<'a> {
     first: &'a mut [u8],
@@ -192,14 +186,14 @@ struct Lent<'a> {
 }
 
 impl Lent<'_> {
-    fn answer_of(&mut self, case: Record<'_>) -> Outcome {
+    fn outcome(&mut self, case: Case<'_>) -> Outcome {
         match case.call {
-            Call::ReadBack => back::reading::read_back(case.given, self.first, self.second),
-            Call::Write => lists::writing::write(case.given, case.text, self.first),
-            Call::Load => skeleton::pages::load(case.given),
-            Call::Run => book::calls::run(case.given, case.allowance, self.first, self.second),
+            Call::ReadBack => back::reading::read_back(case.input, self.first, self.second),
+            Call::Write => lists::writing::write(case.input, case.text, self.first),
+            Call::Load => skeleton::pages::load(case.input),
+            Call::Run => book::calls::run(case.input, case.allowance, self.first, self.second),
             Call::Reprint => book::calls::reprint(
-                case.given,
+                case.input,
                 case.allowance,
                 case.page,
                 self.first,
@@ -209,17 +203,16 @@ impl Lent<'_> {
         }
     }
 
-    // Every table is left as a record wants.
-    fn hold(&self, left: Three<&[u8]>) -> bool {
-        holds(self.first, left.first)
-            && holds(self.second, left.second)
-            && holds(self.third, left.third)
+    fn hold(&self, left: [&[u8]; 3]) -> bool {
+        let [first, second, third] = left;
+        holds(self.first, first) && holds(self.second, second) && holds(self.third, third)
     }
 }
 
-fn is_right(case: Record<'_>, tables: &mut Tables) -> bool {
-    let mut lent = tables.lend(case.sizes);
-    let outcome = lent.answer_of(case);
+// The call answers what it must, and leaves the tables as it must.
+fn is_right(case: Case<'_>, tables: &mut Tables) -> bool {
+    let mut lent = tables.lend(case.lengths);
+    let outcome = lent.outcome(case);
     let answer = (answer_number(outcome), answer_value(outcome));
     answer == case.answer && lent.hold(case.left)
 }
@@ -230,32 +223,38 @@ fn print_wrong(rt: &impl Print, name: &[u8]) -> io::Result<()> {
     rt.write_all(b"\n")
 }
 
-// Runs the cases one after another, and answers how many were right and how many wrong.
-fn run_all(rt: &impl Print, records: &[u8], tables: &mut Tables) -> io::Result<(usize, usize)> {
-    let mut right = 0;
-    let mut wrong = 0;
-    for bytes in Texts(records) {
-        let case = Record::read(bytes);
+// How many cases were right, and how many wrong.
+#[derive(Clone, Copy)]
+struct Counts {
+    right: usize,
+    wrong: usize,
+}
+
+// Runs the cases one after another.
+fn run_all(rt: &impl Print, records: &[u8], tables: &mut Tables) -> io::Result<Counts> {
+    let mut counts = Counts { right: 0, wrong: 0 };
+    for record in Texts(records) {
+        let case = Case::read(record);
         if is_right(case, tables) {
-            right += 1;
+            counts.right += 1;
         } else {
             print_wrong(rt, case.name)?;
-            wrong += 1;
+            counts.wrong += 1;
         }
     }
-    Ok((right, wrong))
+    Ok(counts)
 }
 
 fn main(rt: HostRuntime) -> io::Result<()> {
     let mut file = fs::open(&rt, "cases")?;
-    let mut bytes = [0u8; 196608];
+    let mut bytes = [0u8; LONGEST];
     let n = read_full(&mut file, &mut bytes)?;
     drop(file);
     let mut tables = Tables {
-        first: [0; 49152],
-        second: [0; 16384],
-        third: [0; 24576],
+        first: [0; FIRST],
+        second: [0; SECOND],
+        third: [0; THIRD],
     };
-    let (right, wrong) = run_all(&rt, &bytes[..n], &mut tables)?;
-    println!(rt; "{right} right, {wrong} wrong")
+    let counts = run_all(&rt, &bytes[..n], &mut tables)?;
+    println!(rt; "{} right, {} wrong", counts.right, counts.wrong)
 }

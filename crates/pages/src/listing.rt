@@ -1,4 +1,7 @@
 // What a body left, as text: its row, and its sections.
+ghost use Rattle.std.specs.Prelude.{length};
+ghost use Rattle.std.specs.Iterator.{at_most};
+
 use crate::values::{Bodies, Value};
 use std::fmt;
 use table::slots;
@@ -69,7 +72,10 @@ impl fmt::Display for Row {
             steps,
             cells,
         } = *self;
-        writeln!(f, "page {page} outcome {ending} errors {errors} steps {steps} cells {cells}")
+        writeln!(
+            f,
+            "page {page} outcome {ending} errors {errors} steps {steps} cells {cells}"
+        )
     }
 }
 
@@ -79,6 +85,8 @@ struct Lists<'a>(&'a [u8]);
 
 impl<'a> Iterator for Lists<'a> {
     type Item = &'a [[u8; VALUE]];
+
+    ghost remaining = { λ s. at_most (length s.0.now) };
 
     fn next(&mut self) -> Option<&'a [[u8; VALUE]]> {
         let (count, rest) = self.0.split_first_chunk()?;

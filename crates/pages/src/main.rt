@@ -11,7 +11,7 @@ use crate::values::Bodies;
 use input::read_full;
 use skeleton::pages::PLACES;
 use std::io;
-use tokens::refusals::{answer_number, answer_value, refused};
+use tokens::refusals::number;
 use tokens::{Outcome, Refusal};
 
 // The longest master.
@@ -42,7 +42,7 @@ struct Master<'a> {
 impl<'a> Master<'a> {
     // The body n.
     fn body(self, n: usize) -> &'a [u8]
-        requires { n < 513 }
+        requires { n < BODIES }
     {
         let from = self.places[2 * n];
         let end = self.places[2 * n + 1];
@@ -51,7 +51,7 @@ impl<'a> Master<'a> {
 
     // The bodies that page n may name.
     fn bodies(self, n: usize) -> Bodies<'a>
-        requires { n < 513 }
+        requires { n < BODIES }
     {
         Bodies {
             preamble: self.body(0),
@@ -86,15 +86,15 @@ impl Tables {
 
     // The row of page n.
     fn row(&self, n: usize) -> Row
-        requires { n < 513 }
+        requires { n < BODIES }
     {
         let (rows, _) = self.rows.as_chunks();
         Row::read(n, &rows[n])
     }
 }
 
-fn print_refusal(rt: &impl Print, outcome: Outcome) -> io::Result<()> {
-    println!(rt; "refused {} at {}", answer_number(outcome), answer_value(outcome))
+fn print_refusal(rt: &impl Print, refusal: Refusal, place: usize) -> io::Result<()> {
+    println!(rt; "refused {} at {place}", number(refusal))
 }
 
 // Bodies 0 to `last`, each run anew for its sections.
@@ -105,33 +105,33 @@ fn print_bodies(
     tables: &mut Tables,
 ) -> io::Result<()> {
     for n in 0..=last.min(BODIES - 1) {
-        let done = tables.reprint(master.bytes, n as i64);
-        if answer_number(done) != 0 {
-            return print_refusal(rt, done);
+        if let Outcome::Refused { refusal, place } = tables.reprint(master.bytes, n as i64) {
+            return print_refusal(rt, refusal, place);
         }
         let sections = Sections::read(&tables.sections, master.bodies(n));
-        print!(rt; "{}{}", tables.row(n), sections)?;
+        print!(rt; "{}{sections}", tables.row(n))?;
     }
     Ok(())
 }
 
 fn print_listing(rt: &impl Print, bytes: &[u8]) -> io::Result<()> {
     if LONGEST < bytes.len() {
-        return print_refusal(rt, refused(Refusal::TooLong, 0));
+        return print_refusal(rt, Refusal::TooLong, 0);
     }
     let mut tables = Tables {
         scratch: [0; SCRATCH],
         rows: [0; ROWS],
         sections: [0; SECTIONS],
     };
-    let ran = tables.run(bytes);
-    if answer_number(ran) != 0 {
-        return print_refusal(rt, ran);
+    match tables.run(bytes) {
+        Outcome::Done { value: last } => {
+            let mut places = [0usize; PLACES];
+            skeleton::pages::survey(bytes, &mut places);
+            let places = &places;
+            print_bodies(rt, Master { bytes, places }, last, &mut tables)
+        }
+        Outcome::Refused { refusal, place } => print_refusal(rt, refusal, place),
     }
-    let mut places = [0usize; PLACES];
-    skeleton::pages::survey(bytes, &mut places);
-    let places = &places;
-    print_bodies(rt, Master { bytes, places }, answer_value(ran), &mut tables)
 }
 
 fn main(rt: HostRuntime) -> io::Result<()> {

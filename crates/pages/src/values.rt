@@ -33,7 +33,7 @@ impl From<u32> for Kind {
     }
 }
 
-// The text of the identifier token at `start`, with all that continues it, in lower case.
+// The text of the identifier token at `start`, with all that continues it, in lower case: letters, digits and `-`, as it was read.
 #[derive(Clone, Copy)]
 struct Name<'a> {
     body: &'a [u8],
@@ -70,7 +70,7 @@ pub struct Value<'a> {
 impl Value<'_> {
     // It is the number 0.
     pub fn is_zero(&self) -> bool {
-        self.slot.kind == 1 && self.slot.a == 0
+        matches!(Kind::from(self.slot.kind), Kind::Number) && self.slot.a == 0
     }
 
     // What it says where it is an identifier.

@@ -1,9 +1,8 @@
 use Rattle.std.proofs.Common.{◌+◌, ◌≤◌, length}
-use Rattle.std.specs.Iterator.{at_most}
 use Rattle.cases.proofs.run_all.Given as goal
 
-abbrev pub invariant-loop-bytes : goal.invariant-loop-bytes
-invariant-loop-bytes g l =
-    (goal.iterator-loop-bytes g).can_next l.bytes-iterator
-    × (goal.iterator-loop-bytes g).is_finite l.bytes-iterator
-    × (l.right + l.wrong + length l.bytes-iterator.0 ≤ length l.records)
+abbrev pub invariant-loop-record : goal.invariant-loop-record
+invariant-loop-record g l =
+    (goal.iterator-loop-record g).can_next l.record-iterator
+    × (goal.iterator-loop-record g).is_finite l.record-iterator
+    × (l.counts.right + l.counts.wrong + length l.record-iterator.0.now ≤ length l.records)
