@@ -1,5 +1,5 @@
 // Runs every case of the data file over the library, and says how many were right and which were wrong. tools/make_cases.py makes
-// the file and says what a record is. In order: bytes; a record; the tables lent; a case; all of them.
+// the file and says what a record is. In order: texts; a record; what is left in a table; the tables lent; a case; all of them.
 #![tactic(auto)]
 
 ghost use Rattle.std.specs.Prelude.{◌+◌, ◌≤◌, length, IfSome};
@@ -26,7 +26,15 @@ const LENT: u8 = 165;
 // Where the texts of a record begin, after eight numbers.
 const TEXTS: usize = 32;
 
-// One text after another: its length, then its bytes. One that is cut off is empty, and the last.
+// The first text, after its length, and the bytes after it.
+fn split_text(bytes: &[u8]) -> Option<(&[u8], &[u8])>
+    ensures { IfSome result (λ r. length r.1.now + 4 ≤ length bytes.now) }
+{
+    let (len, rest) = bytes.split_first_chunk()?;
+    rest.split_at_checked(u32::from_le_bytes(*len) as usize)
+}
+
+// One text after another. One that is cut off is empty, and the last.
 #[derive(Drop)]
 struct Texts<'a>(&'a [u8]);
 
@@ -51,14 +59,6 @@ impl<'a> Texts<'a> {
         let text = self.next();
         text.unwrap_or(&[])
     }
-}
-
-// The first text, and the bytes after it.
-fn split_text(bytes: &[u8]) -> Option<(&[u8], &[u8])>
-    ensures { IfSome result (λ r. length r.1.now + 4 ≤ length bytes.now) }
-{
-    let (len, rest) = bytes.split_first_chunk()?;
-    rest.split_at_checked(u32::from_le_bytes(*len) as usize)
 }
 
 // The number k of a record, 0 past its end.
@@ -107,15 +107,17 @@ struct Case<'a> {
 
     // Number and value.
     answer: (u32, usize),
+
+    // The arguments.
     allowance: i64,
     page: i64,
+    input: &'a [u8],
+    text: &'a [u8],
 
     // How long each table is that is lent, and what is left in it.
     lengths: [usize; 3],
     left: [&'a [u8]; 3],
     name: &'a [u8],
-    input: &'a [u8],
-    text: &'a [u8],
 }
 
 impl<'a> Case<'a> {
@@ -129,16 +131,16 @@ impl<'a> Case<'a> {
             answer: (word(record, 1), number(record, 2)),
             allowance: signed(record, 3),
             page: signed(record, 4),
+            input,
+            text,
             lengths: [number(record, 5), number(record, 6), number(record, 7)],
             left: [texts.text(), texts.text(), texts.text()],
             name,
-            input,
-            text,
         }
     }
 }
 
-// What follows a run in a table that begins with it: how many times, then the bytes that come so often.
+// What follows a run in a table that begins with it. A run is how many times, then the bytes that come so often.
 fn strip_run<'a>(table: &'a [u8], run: &[u8]) -> Option<&'a [u8]> {
     let (times, bytes) = run.split_first_chunk()?;
     (0..u32::from_le_bytes(*times)).try_fold(table, |rest, _| rest.strip_prefix(bytes))
@@ -151,7 +153,7 @@ fn holds(table: &[u8], runs: &[u8]) -> bool {
         .is_some_and(|rest| rest.iter().all(|b| *b == LENT))
 }
 
-// The front of a table, so long or all of it, with each byte as it is lent.
+// The front of a table, so long or the whole, with each byte as it is lent.
 fn lend<const N: usize>(table: &mut [u8; N], len: usize) -> &mut [u8] {
     let end = len.min(N);
     let lent = &mut table[..end];
@@ -203,6 +205,7 @@ impl Lent<'_> {
         }
     }
 
+    // Each table holds what is left in it.
     fn hold(&self, left: [&[u8]; 3]) -> bool {
         let [first, second, third] = left;
         holds(self.first, first) && holds(self.second, second) && holds(self.third, third)

@@ -98,11 +98,13 @@ impl<'a> Iterator for Lists<'a> {
 }
 
 impl<'a> Lists<'a> {
-    // The next section, with the bodies of its page.
+    // The values of the next section, none where none is left.
     fn values(&mut self, bodies: Bodies<'a>) -> Values<'a> {
         let list = self.next();
-        let list = list.unwrap_or(&[]);
-        Values { list, bodies }
+        Values {
+            list: list.unwrap_or(&[]),
+            bodies,
+        }
     }
 }
 

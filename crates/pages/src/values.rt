@@ -33,7 +33,8 @@ impl From<u32> for Kind {
     }
 }
 
-// The text of the identifier token at `start`, with all that continues it, in lower case: letters, digits and `-`, as it was read.
+// The text of the identifier token at `start`, with all that continues it, in lower case. It has letters, digits and `-`: a token
+// with another byte was refused.
 #[derive(Clone, Copy)]
 struct Name<'a> {
     body: &'a [u8],
@@ -73,7 +74,7 @@ impl Value<'_> {
         matches!(Kind::from(self.slot.kind), Kind::Number) && self.slot.a == 0
     }
 
-    // What it says where it is an identifier.
+    // Its text, where it is an identifier.
     fn name(&self) -> Name<'_> {
         let body = if self.slot.a == 0 {
             self.bodies.preamble
