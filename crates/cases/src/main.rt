@@ -1,263 +1,232 @@
 // Runs every case of the data file over the library, and says how many were right and which were wrong. tools/make_cases.py makes
-// the file and says what a record is.
+// the file and says what a record is. In order: texts; a record; what is left in a table; the tables lent; a case; all of them.
 #![tactic(auto)]
 
-ghost use Rattle.std.specs.Prelude.{◌<◌, ◌≤◌, length};
+ghost use Rattle.std.specs.Prelude.{◌+◌, ◌≤◌, length, IfSome};
+ghost use Rattle.std.specs.Iterator.{at_most};
 
 use input::read_full;
 use std::{fs, io};
 use tokens::Outcome;
+use tokens::refusals::{answer_number, answer_value};
+
+// The longest data file.
+const LONGEST: usize = 196608;
+
+// The longest tables.
+const FIRST: usize = 49152;
+
+const SECOND: usize = 16384;
+
+const THIRD: usize = 24576;
 
 // What every byte of a lent table holds before a call.
 const LENT: u8 = 165;
 
-// A place past the end of every table here.
-const WRONG: usize = 65536;
-
-// A record has first these numbers, at these places: its call;
-const CALL: usize = 0;
-
-// number and value of the answer;
-const NUMBER: usize = 4;
-
-const VALUE: usize = 8;
-
-// the arguments;
-const ALLOWANCE: usize = 12;
-
-const PAGE: usize = 16;
-
-// the lengths of the tables.
-const FIRST: usize = 20;
-
-const SECOND: usize = 24;
-
-const THIRD: usize = 28;
-
-// Where its texts begin.
+// Where the texts of a record begin, after eight numbers.
 const TEXTS: usize = 32;
 
-// The word at a place, 0 past the end.
-fn word_at(bytes: &[u8], at: usize) -> u32 {
-    if bytes.len() < 4 {
-        return 0;
-    }
-    if bytes.len() - 4 < at {
-        return 0;
-    }
-    table::words::get_word(bytes, at)
-}
-
-fn number_at(bytes: &[u8], at: usize) -> usize {
-    table::words::size(word_at(bytes, at))
-}
-
-fn signed_at(bytes: &[u8], at: usize) -> i64 {
-    numbers::words::of_word(word_at(bytes, at)) as i64
-}
-
-// `len` bytes from a place on; none where the bytes end before.
-fn part(bytes: &[u8], at: usize, len: usize) -> &[u8] {
-    let none: usize = 0;
-    if bytes.len() < at {
-        return &bytes[none..none];
-    }
-    if bytes.len() - at < len {
-        return &bytes[none..none];
-    }
-    let end = at + len;
-    &bytes[at..end]
-}
-
-// The text at a place: its length, then its bytes.
-fn text_at(bytes: &[u8], at: usize) -> &[u8] {
-    if bytes.len() < at {
-        return part(bytes, 0, 0);
-    }
-    if bytes.len() - at < 4 {
-        return part(bytes, 0, 0);
-    }
-    part(bytes, at + 4, number_at(bytes, at))
-}
-
-// The place after the text at a place.
-fn after_text(bytes: &[u8], at: usize) -> usize
-    ensures { (result ≤ length bytes.now) × (at < length bytes.now → at < result) }
+// The first text, after its length, and the bytes after it.
+fn split_text(bytes: &[u8]) -> Option<(&[u8], &[u8])>
+    ensures { IfSome result (λ r. length r.1.now + 4 ≤ length bytes.now) }
 {
-    if bytes.len() < at {
-        return bytes.len();
-    }
-    if bytes.len() - at < 4 {
-        return bytes.len();
-    }
-    let len = number_at(bytes, at);
-    if bytes.len() - at - 4 < len {
-        return bytes.len();
-    }
-    at + 4 + len
+    let (len, rest) = bytes.split_first_chunk()?;
+    rest.split_at_checked(u32::from_le_bytes(*len) as usize)
 }
 
-// The text of a record after n others: name, input, text, what is left in each table.
-fn nth_text(record: &[u8], n: usize) -> &[u8] {
-    let mut at = TEXTS;
-    let mut k: usize = 0;
-    while k < n {
-        at = after_text(record, at);
-        k += 1;
-    }
-    text_at(record, at)
-}
+// One text after another. One that is cut off is empty, and the last.
+#[derive(Drop)]
+struct Texts<'a>(&'a [u8]);
 
-// Fills a table with the byte that it is lent with.
-fn lend(lent: &mut [u8]) {
-    let mut i: usize = 0;
-    while i < lent.len() {
-        lent[i] = LENT;
-        i += 1;
-    }
-}
+impl<'a> Iterator for Texts<'a> {
+    type Item = &'a [u8];
 
-// From a place on the table is as lent.
-fn as_lent(lent: &[u8], from: usize) -> bool {
-    if lent.len() < from {
-        return false;
-    }
-    let mut i = from;
-    while i < lent.len() {
-        if lent[i] != LENT {
-            return false;
+    ghost remaining = { λ s. at_most (length s.0.now) };
+
+    fn next(&mut self) -> Option<&'a [u8]> {
+        if self.0.is_empty() {
+            return None;
         }
-        i += 1;
+        let (text, rest) = split_text(self.0).unwrap_or((&[], &[]));
+        self.0 = rest;
+        Some(text)
     }
-    true
 }
 
-// The place after the bytes that must stand at `from`.
-fn after_bytes(lent: &[u8], from: usize, wanted: &[u8]) -> usize {
-    if lent.len() < from {
-        return WRONG;
+impl<'a> Texts<'a> {
+    // The next text, empty after the last.
+    fn text(&mut self) -> &'a [u8] {
+        let text = self.next();
+        text.unwrap_or(&[])
     }
-    if lent.len() - from < wanted.len() {
-        return WRONG;
-    }
-    let mut i: usize = 0;
-    while i < wanted.len() {
-        if lent[from + i] != wanted[i] {
-            return WRONG;
+}
+
+// The number k of a record, 0 past its end.
+fn word(record: &[u8], k: usize) -> u32 {
+    record
+        .as_chunks()
+        .0
+        .get(k)
+        .map_or(0, |bytes| u32::from_le_bytes(*bytes))
+}
+
+fn number(record: &[u8], k: usize) -> usize {
+    word(record, k) as usize
+}
+
+fn signed(record: &[u8], k: usize) -> i64 {
+    i64::from(word(record, k).cast_signed())
+}
+
+// The call of a case.
+#[derive(Clone, Copy)]
+enum Call {
+    ReadBack,
+    Write,
+    Load,
+    Run,
+    Reprint,
+}
+
+impl From<u32> for Call {
+    fn from(word: u32) -> Call {
+        match word {
+            1 => Call::ReadBack,
+            2 => Call::Write,
+            3 => Call::Load,
+            4 => Call::Run,
+            _ => Call::Reprint,
         }
-        i += 1;
     }
-    from + wanted.len()
 }
 
-// The place after a run that must stand at `from`: how many times, then the bytes that come so often.
-fn after_run(lent: &[u8], from: usize, run: &[u8]) -> usize {
-    if run.len() < 4 {
-        return WRONG;
+// A case, as its record says it.
+#[derive(Clone, Copy)]
+struct Case<'a> {
+    call: Call,
+
+    // Number and value.
+    answer: (u32, usize),
+
+    // The arguments.
+    allowance: i64,
+    page: i64,
+    input: &'a [u8],
+    text: &'a [u8],
+
+    // How long each table is that is lent, and what is left in it.
+    lengths: [usize; 3],
+    left: [&'a [u8]; 3],
+    name: &'a [u8],
+}
+
+impl<'a> Case<'a> {
+    fn read(record: &'a [u8]) -> Case<'a> {
+        let mut texts = Texts(record.get(TEXTS..).unwrap_or(&[]));
+        let name = texts.text();
+        let input = texts.text();
+        let text = texts.text();
+        Case {
+            call: Call::from(word(record, 0)),
+            answer: (word(record, 1), number(record, 2)),
+            allowance: signed(record, 3),
+            page: signed(record, 4),
+            input,
+            text,
+            lengths: [number(record, 5), number(record, 6), number(record, 7)],
+            left: [texts.text(), texts.text(), texts.text()],
+            name,
+        }
     }
-    let times = number_at(run, 0);
-    let bytes = part(run, 4, run.len() - 4);
-    let mut p = from;
-    let mut k: usize = 0;
-    while k < times {
-        p = after_bytes(lent, p, bytes);
-        k += 1;
-    }
-    p
+}
+
+// What follows a run in a table that begins with it. A run is how many times, then the bytes that come so often.
+fn strip_run<'a>(table: &'a [u8], run: &[u8]) -> Option<&'a [u8]> {
+    let (times, bytes) = run.split_first_chunk()?;
+    (0..u32::from_le_bytes(*times)).try_fold(table, |rest, _| rest.strip_prefix(bytes))
 }
 
 // The table is the runs, one after another, and then as lent.
-fn holds(lent: &[u8], runs: &[u8]) -> bool {
-    let mut p: usize = 0;
-    let mut at: usize = 0;
-    while at < runs.len() {
-        p = after_run(lent, p, text_at(runs, at));
-        at = after_text(runs, at);
-    }
-    as_lent(lent, p)
+fn holds(table: &[u8], runs: &[u8]) -> bool {
+    Texts(runs)
+        .try_fold(table, strip_run)
+        .is_some_and(|rest| rest.iter().all(|b| *b == LENT))
 }
 
-fn answers(record: &[u8], outcome: Outcome) -> bool {
-    if tokens::refusals::answer_number(outcome) as usize != number_at(record, NUMBER) {
-        return false;
-    }
-    tokens::refusals::answer_value(outcome) == number_at(record, VALUE)
+// The front of a table, so long or the whole, with each byte as it is lent.
+fn lend<const N: usize>(table: &mut [u8; N], len: usize) -> &mut [u8] {
+    let end = len.min(N);
+    let lent = &mut table[..end];
+    lent.fill(LENT);
+    lent
 }
 
-// The call of a case: 1 reads back, 2 writes, 3 loads, 4 runs, any other reprints.
-fn answer_of(record: &[u8], first: &mut [u8], second: &mut [u8], third: &mut [u8]) -> Outcome {
-    let call = number_at(record, CALL);
-    let given = nth_text(record, 1);
-    let allowance = signed_at(record, ALLOWANCE);
-    if call == 1 {
-        return back::reading::read_back(given, first, second);
-    }
-    if call == 2 {
-        return lists::writing::write(given, nth_text(record, 2), first);
-    }
-    if call == 3 {
-        return skeleton::pages::load(given);
-    }
-    if call == 4 {
-        return book::calls::run(given, allowance, first, second);
-    }
-    book::calls::reprint(
-        given,
-        allowance,
-        signed_at(record, PAGE),
-        first,
-        second,
-        third,
-    )
+#[derive(Drop)]
+struct Tables {
+    first: [u8; FIRST],
+    second: [u8; SECOND],
+    third: [u8; THIRD],
 }
 
-// Every table is left as its record wants.
-fn all_hold(record: &[u8], first: &[u8], second: &[u8], third: &[u8]) -> bool {
-    if !holds(first, nth_text(record, 3)) {
-        return false;
+impl Tables {
+    fn lend(&mut self, lengths: [usize; 3]) -> Lent<'_> {
+        let [first, second, third] = lengths;
+        Lent {
+            first: lend(&mut self.first, first),
+            second: lend(&mut self.second, second),
+            third: lend(&mut self.third, third),
+        }
     }
-    if !holds(second, nth_text(record, 4)) {
-        return false;
-    }
-    holds(third, nth_text(record, 5))
 }
 
-// One case, in tables as long as its record asks.
-fn is_right(record: &[u8], first: &mut [u8], second: &mut [u8], third: &mut [u8]) -> bool {
-    lend(first);
-    lend(second);
-    lend(third);
-    let outcome = answer_of(record, first, second, third);
-    let left = all_hold(record, first, second, third);
-    answers(record, outcome) && left
+// The tables of one call.
+#[derive(Drop)]
+struct Lent<'a> {
+    first: &'a mut [u8],
+    second: &'a mut [u8],
+    third: &'a mut [u8],
 }
 
-// The smaller of two.
-fn least(a: usize, b: usize) -> usize
-    ensures { (result ≤ a) × (result ≤ b) }
-{
-    if a < b { a } else { b }
-}
-
-fn run_case(
-    rt: &impl Print,
-    record: &[u8],
-    first: &mut [u8],
-    second: &mut [u8],
-    third: &mut [u8],
-) -> io::Result<bool> {
-    let a = least(number_at(record, FIRST), first.len());
-    let b = least(number_at(record, SECOND), second.len());
-    let c = least(number_at(record, THIRD), third.len());
-    if is_right(record, &mut first[..a], &mut second[..b], &mut third[..c]) {
-        return Ok(true);
+impl Lent<'_> {
+    fn outcome(&mut self, case: Case<'_>) -> Outcome {
+        match case.call {
+            Call::ReadBack => back::reading::read_back(case.input, self.first, self.second),
+            Call::Write => lists::writing::write(case.input, case.text, self.first),
+            Call::Load => skeleton::pages::load(case.input),
+            Call::Run => book::calls::run(case.input, case.allowance, self.first, self.second),
+            Call::Reprint => book::calls::reprint(
+                case.input,
+                case.allowance,
+                case.page,
+                self.first,
+                self.second,
+                self.third,
+            ),
+        }
     }
+
+    // Each table holds what is left in it.
+    fn hold(&self, left: [&[u8]; 3]) -> bool {
+        let [first, second, third] = left;
+        holds(self.first, first) && holds(self.second, second) && holds(self.third, third)
+    }
+}
+
+// The call answers what it must, and leaves the tables as it must.
+fn is_right(case: Case<'_>, tables: &mut Tables) -> bool {
+    let mut lent = tables.lend(case.lengths);
+    let outcome = lent.outcome(case);
+    let answer = (answer_number(outcome), answer_value(outcome));
+    answer == case.answer && lent.hold(case.left)
+}
+
+fn print_wrong(rt: &impl Print, name: &[u8]) -> io::Result<()> {
     rt.write_all(b"wrong: ")?;
-    rt.write_all(nth_text(record, 0))?;
-    rt.write_all(b"\n")?;
-    Ok(false)
+    rt.write_all(name)?;
+    rt.write_all(b"\n")
 }
 
+// How many cases were right, and how many wrong.
 #[derive(Clone, Copy)]
 struct Counts {
     right: usize,
@@ -265,40 +234,30 @@ struct Counts {
 }
 
 // Runs the cases one after another.
-fn run_all(
-    rt: &impl Print,
-    bytes: &[u8],
-    first: &mut [u8],
-    second: &mut [u8],
-    third: &mut [u8],
-) -> io::Result<Counts> {
-    let mut at: usize = 0;
-    let mut right: usize = 0;
-    let mut wrong: usize = 0;
-    while at < bytes.len() {
-        if run_case(rt, text_at(bytes, at), first, second, third)? {
-            right += 1;
+fn run_all(rt: &impl Print, records: &[u8], tables: &mut Tables) -> io::Result<Counts> {
+    let mut counts = Counts { right: 0, wrong: 0 };
+    for record in Texts(records) {
+        let case = Case::read(record);
+        if is_right(case, tables) {
+            counts.right += 1;
         } else {
-            wrong += 1;
+            print_wrong(rt, case.name)?;
+            counts.wrong += 1;
         }
-        at = after_text(bytes, at);
     }
-    Ok(Counts { right, wrong })
-}
-
-fn say(rt: &impl Print, counts: Counts) -> io::Result<()> {
-    println!(rt; "{} right, {} wrong", counts.right, counts.wrong)
+    Ok(counts)
 }
 
 fn main(rt: HostRuntime) -> io::Result<()> {
-    let path = "cases";
-    let mut file = fs::open(&rt, path)?;
-    let mut bytes = [0u8; 196608];
+    let mut file = fs::open(&rt, "cases")?;
+    let mut bytes = [0u8; LONGEST];
     let n = read_full(&mut file, &mut bytes)?;
     drop(file);
-    let mut first = [0u8; 49152];
-    let mut second = [0u8; 16384];
-    let mut third = [0u8; 24576];
-    let counts = run_all(&rt, &bytes[..n], &mut first, &mut second, &mut third)?;
-    say(&rt, counts)
+    let mut tables = Tables {
+        first: [0; FIRST],
+        second: [0; SECOND],
+        third: [0; THIRD],
+    };
+    let counts = run_all(&rt, &bytes[..n], &mut tables)?;
+    println!(rt; "{} right, {} wrong", counts.right, counts.wrong)
 }

@@ -1,8 +1,8 @@
-use Rattle.std.proofs.Common.{length, ◌-◌, ◌≤◌}
+use Rattle.std.proofs.Common.{◌+◌, ◌≤◌, length}
 use Rattle.cases.proofs.run_all.Given as goal
 
-abbrev pub invariant-loop-at : goal.invariant-loop-at
-invariant-loop-at g l = (l.at ≤ length l.bytes) × (l.right ≤ l.at) × (l.wrong ≤ l.at)
-
-abbrev pub decreases-loop-at : goal.decreases-loop-at
-decreases-loop-at g l = length l.bytes - l.at
+abbrev pub invariant-loop-record : goal.invariant-loop-record
+invariant-loop-record g l =
+    (goal.iterator-loop-record g).can_next l.record-iterator
+    × (goal.iterator-loop-record g).is_finite l.record-iterator
+    × (l.counts.right + l.counts.wrong + length l.record-iterator.0.now ≤ length l.records)

@@ -1,8 +1,0 @@
-use Rattle.std.proofs.Common.{◌-◌, ◌≤◌}
-use Rattle.pages.proofs.put_bodies.Given as goal
-
-abbrev pub invariant-loop-n : goal.invariant-loop-n
-invariant-loop-n g l = l.n ≤ 513
-
-abbrev pub decreases-loop-n : goal.decreases-loop-n
-decreases-loop-n g l = 513 - l.n
