@@ -11,8 +11,7 @@ use crate::values::Bodies;
 use input::read_full;
 use skeleton::pages::PLACES;
 use std::io;
-use tokens::refusals::number;
-use tokens::{Outcome, Refusal};
+use tokens::{Outcome, Refusal, Refused};
 
 // The longest master.
 const LONGEST: usize = 32768;
@@ -93,8 +92,8 @@ impl Tables {
     }
 }
 
-fn print_refusal(rt: &impl Print, refusal: Refusal, place: usize) -> io::Result<()> {
-    println!(rt; "refused {} at {place}", number(refusal))
+fn print_refusal(rt: &impl Print, refused: Refused) -> io::Result<()> {
+    println!(rt; "refused {} at {}", refused.refusal.number(), refused.place)
 }
 
 // Bodies 0 to `last`, each run anew for its sections.
@@ -105,8 +104,8 @@ fn print_bodies(
     tables: &mut Tables,
 ) -> io::Result<()> {
     for n in 0..=last.min(BODIES - 1) {
-        if let Outcome::Refused { refusal, place } = tables.reprint(master.bytes, n as i64) {
-            return print_refusal(rt, refusal, place);
+        if let Err(refused) = tables.reprint(master.bytes, n as i64) {
+            return print_refusal(rt, refused);
         }
         let sections = Sections::read(&tables.sections, master.bodies(n));
         print!(rt; "{}{sections}", tables.row(n))?;
@@ -116,7 +115,7 @@ fn print_bodies(
 
 fn print_listing(rt: &impl Print, bytes: &[u8]) -> io::Result<()> {
     if LONGEST < bytes.len() {
-        return print_refusal(rt, Refusal::TooLong, 0);
+        return print_refusal(rt, Refusal::TooLong.met_at(0));
     }
     let mut tables = Tables {
         scratch: [0; SCRATCH],
@@ -124,13 +123,13 @@ fn print_listing(rt: &impl Print, bytes: &[u8]) -> io::Result<()> {
         sections: [0; SECTIONS],
     };
     match tables.run(bytes) {
-        Outcome::Done { value: last } => {
+        Ok(last) => {
             let mut places = [0usize; PLACES];
-            skeleton::pages::survey(bytes, &mut places);
+            let _ = skeleton::pages::survey(bytes, &mut places);
             let places = &places;
             print_bodies(rt, Master { bytes, places }, last, &mut tables)
         }
-        Outcome::Refused { refusal, place } => print_refusal(rt, refusal, place),
+        Err(refused) => print_refusal(rt, refused),
     }
 }
 

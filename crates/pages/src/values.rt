@@ -2,7 +2,6 @@
 use pieces::sequences;
 use std::fmt;
 use table::Slot;
-use tokens::Piece;
 
 // The bodies that hold the text of identifiers: of those with origin 0 the preamble, of any other the page's.
 #[derive(Clone, Copy)]
@@ -45,11 +44,11 @@ impl fmt::Display for Name<'_> {
     fn fmt<W: fmt::Write>(&self, f: &mut fmt::Formatter<W>) -> fmt::Result {
         let mut at = self.start;
         while at < self.body.len() {
-            let Piece::Data { start, len } = sequences::piece_at(self.body, at) else {
+            let Some(piece) = sequences::piece_at(self.body, at) else {
                 break;
             };
-            let end = start + len;
-            for b in &self.body[start..end] {
+            let end = piece.start + piece.len;
+            for b in &self.body[piece.start..end] {
                 f.write_char(char::from(b.to_ascii_lowercase()))?;
             }
             if !sequences::is_continued_at(self.body, end) {
