@@ -45,11 +45,9 @@ pub fn copy(w: &mut [u8], s: usize, d: usize, n: usize)
     requires { (20 * (s + n) ≤ length w.old) × (20 * (d + n) ≤ length w.old) }
     ensures { slots w.new ≡ copied (slots w.old) s d n }
 {
-    let mut i: usize = 0;
-    while i < n {
+    for i in 0..n {
         let v = get(w, s + i);
         put(w, d + i, v);
-        i += 1;
     }
 }
 
@@ -58,11 +56,8 @@ pub fn copy_long(w: &mut [u8], s: usize, d: usize, n: usize)
     requires { (20 * (s + n) ≤ length w.old) × (20 * (d + n) ≤ length w.old) }
     ensures { slots w.new ≡ copied (slots w.old) s d n }
 {
-    let mut i: usize = 0;
-    let most = 20 * n;
-    while i < most {
+    for i in 0..20 * n {
         w[20 * d + i] = w[20 * s + i];
-        i += 1;
     }
 }
 
@@ -71,9 +66,5 @@ pub fn clear(w: &mut [u8], n: usize)
     requires { n ≤ length w.old }
     ensures { w.new ≡ zeroed n w.old }
 {
-    let mut at: usize = 0;
-    while at < n {
-        w[at] = 0;
-        at += 1;
-    }
+    w[..n].fill(0);
 }

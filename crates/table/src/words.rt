@@ -31,7 +31,7 @@ pub fn get_word(b: &[u8], i: usize) -> u32
     requires { i + 4 ≤ length b.now }
     ensures { result ≡ word_at b.now i }
 {
-    wide(b[i]) + wide(b[i + 1]) * 256 + wide(b[i + 2]) * 65536 + wide(b[i + 3]) * 16777216
+    u32::from_le_bytes([b[i], b[i + 1], b[i + 2], b[i + 3]])
 }
 
 // Stores the word `w` at byte `i`.
@@ -39,10 +39,7 @@ pub fn put_word(b: &mut [u8], i: usize, w: u32)
     requires { i + 4 ≤ length b.old }
     ensures { b.new ≡ sets b.old i (word_bytes w) }
 {
-    b[i] = (w % 256) as u8;
-    b[i + 1] = (w / 256 % 256) as u8;
-    b[i + 2] = (w / 65536 % 256) as u8;
-    b[i + 3] = (w / 16777216 % 256) as u8;
+    b[i..i + 4].copy_from_slice(&w.to_le_bytes());
 }
 
 // Copies `len` bytes of `x` from `from` on to `at`.
@@ -50,9 +47,5 @@ pub fn copy(out: &mut [u8], at: usize, x: &[u8], from: usize, len: usize)
     requires { (at + len ≤ length out.old) × (from + len ≤ length x.now) }
     ensures { out.new ≡ sets out.old at (slice from (from + len) x.now) }
 {
-    let mut i: usize = 0;
-    while i < len {
-        out[at + i] = x[from + i];
-        i += 1;
-    }
+    out[at..at + len].copy_from_slice(&x[from..from + len]);
 }
