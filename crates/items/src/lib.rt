@@ -26,11 +26,7 @@ pub enum Item {
 fn size_of_word(a: u32) -> u64
     ensures { result ≡ nat_abs (to_z w32 a) }
 {
-    if a < 2147483648 {
-        a as u64
-    } else {
-        4294967296 - a as u64
-    }
+    a.cast_signed().unsigned_abs() as u64
 }
 
 fn number_item(a: u32, b: u32, c: u32) -> Item

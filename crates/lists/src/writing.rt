@@ -39,12 +39,8 @@ fn put_bytes(out: &mut [u8], o: usize, k: usize, v: u64) -> usize
     requires { Room out.old o (bytes_of k v) }
     ensures { Put out.old out.new o (bytes_of k v) result }
 {
-    let mut i = k;
-    let mut w = v;
-    while 0 < i {
-        i -= 1;
-        out[o + i] = (w % 256) as u8;
-        w = w / 256;
+    for i in 0..k {
+        out[o + i] = (v >> (8 * (k - 1 - i))) as u8;
     }
     o + k
 }
@@ -96,7 +92,7 @@ fn raised_of(a: u32) -> u32
 fn mag_of(a: u32) -> u32
     ensures { result ≡ mag (to_z w32 a) }
 {
-    if a < 2147483648 { a } else { 4294967295 - a }
+    a.min(!a)
 }
 
 // The fewest bytes that hold a number.
@@ -267,15 +263,13 @@ fn cap(n: usize) -> usize
 fn measure(list: &[u8], text: &[u8]) -> Measured
     ensures { result ≡ measured_of (listed list.now text.now) }
 {
-    let mut at: usize = 0;
     let mut total: usize = 21;
-    while at < list.len() {
+    for at in (0..list.len()).step_by(16) {
         let n = size_of(items::item_at(list, text, at));
         if n == 0 {
             return Measured::Wrong { index: at / 16 };
         }
         total = cap(total + n);
-        at += 16;
     }
     Measured::Sum { len: total }
 }
@@ -286,11 +280,9 @@ fn put_all(list: &[u8], text: &[u8], out: &mut [u8])
     ensures { out.new ≡ sets out.old 0 (written_of (tokens_in (listed list.now text.now))) }
 {
     table::words::copy(out, 0, b"Interpress/Xerox/3.0 ", 0, 21);
-    let mut at: usize = 0;
     let mut o: usize = 21;
-    while at < list.len() {
+    for at in (0..list.len()).step_by(16) {
         o = put_item(out, o, text, items::item_at(list, text, at));
-        at += 16;
     }
 }
 

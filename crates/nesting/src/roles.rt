@@ -1,6 +1,6 @@
 // What an operator's number is to the skeleton.
 ghost use Rattle.std.specs.Prelude.{◌≡◌};
-ghost use Rattle.machine.specs.Skeleton.{one_of, role_of};
+ghost use Rattle.machine.specs.Skeleton.{role_of};
 
 use machine::Role;
 
@@ -21,30 +21,16 @@ const HOLDERS: [u16; 6] = [110, 114, 120, 239, 240, 241];
 // BEGIN, END, CONTENTINSTRUCTIONS, and a `{` that no body operator stands before
 const BARRED: [u16; 4] = [BEGIN, END, CONTENT_INSTRUCTIONS, OPEN];
 
-// Whether n is one of the numbers of the list.
-fn one_of(list: &[u16], n: u16) -> bool
-    ensures { result ≡ one_of list.now n }
-{
-    let mut i: usize = 0;
-    while i < list.len() {
-        if list[i] == n {
-            return true;
-        }
-        i += 1;
-    }
-    false
-}
-
 pub fn role_of(n: u16) -> Role
     ensures { result ≡ role_of n }
 {
     if n == CLOSE {
         return Role::Closes;
     }
-    if one_of(&HOLDERS, n) {
+    if HOLDERS.contains(&n) {
         return Role::Holds;
     }
-    if one_of(&BARRED, n) {
+    if BARRED.contains(&n) {
         return Role::Barred;
     }
     Role::Plain

@@ -4,13 +4,6 @@ ghost use Rattle.std.proofs.lemmas.List.Edits.{sets};
 ghost use Rattle.std.proofs.Math.Seq.{slice};
 ghost use Rattle.table.specs.Words.{word_at, word_bytes};
 
-// A byte as a word.
-pub fn wide(x: u8) -> u32
-    ensures { (result ≡ x) × (result < 256) }
-{
-    x as u32
-}
-
 // A count as a word.
 pub fn word(x: usize) -> u32
     requires { x < 4294967296 }
