@@ -3,7 +3,7 @@ use mathlib.Core.Path.{◌≡◌, sym, ap, ◌∙◌}
 use mathlib.Core.Bool.{Bool}
 use Prim.Native.Nat.{ℕ, suc, ◌-◌, ◌<◌, ◌≤◌}
 use native.Mathlib.Omega.{arith}
-use lib.IntN.{pos, negsuc, nat_abs}
+use lib.IntN.{pos, negsuc}
 use lib.Signed.{mag}
 use mir.Syntax.{w32}
 use mir.Val.{to_z, sel}
@@ -20,9 +20,3 @@ mag_low a h = sym (ap mag (low a h))
 
 pub mag_high : (a : ℕ) → 2147483648 ≤ a → a < 4294967296 → 4294967295 - a ≡ mag (to_z w32 a)
 mag_high a h k = let e : 4294967295 - a ≡ 4294967296 - suc a = omega arith in e ∙ sym (ap mag (high a h))
-
-pub abs_low : (a : ℕ) → a < 2147483648 → a ≡ nat_abs (to_z w32 a)
-abs_low a h = sym (ap nat_abs (low a h))
-
-pub abs_high : (a : ℕ) → 2147483648 ≤ a → a < 4294967296 → 4294967296 - a ≡ nat_abs (to_z w32 a)
-abs_high a h k = let e : 4294967296 - a ≡ suc (4294967296 - suc a) = omega arith in e ∙ sym (ap nat_abs (high a h))
