@@ -1,10 +1,12 @@
 -- The text of an identifier in lower case, and of a string as it is, byte by byte. Assumes nothing.
-use mathlib.Core.Path.{◌≡◌, refl, ap}
+use mathlib.Core.Path.{◌≡◌, refl, ap, ap₂}
 use mathlib.Core.Bool.{Bool, true, false}
-use mathlib.Core.List.{List, [], ◌∷◌, ◌++◌}
-use Prim.Native.Nat.{ℕ, suc, ◌<◌, ◌≤◌}
-use lib.ListN.{length, get_or, set}
-use lib.Seq.{slice, slice-cons, sets}
+use mathlib.Core.List.{List, [], ◌∷◌, ◌++◌, map}
+use Prim.Native.Nat.{ℕ, suc}
+use lib.ListN.{length}
+use native.Mathlib.Omega.{arith}
+use Rattle.std.specs.Char.{to_ascii_lowercase}
+use Rattle.std.proofs.lemmas.Bool.Decides.{nat_tests}
 use Rattle.tokens.specs.Text.{lower_of, lowered}
 use Rattle.tokens.proofs.Copying.{Shows}
 use Rattle.filling.specs.Filling.{shown}
@@ -21,11 +23,15 @@ shown_append true [] e = refl
 shown_append true (b ∷ d) e = ap (λ (l : List ℕ). lower_of b ∷ l) (shown_append true d e)
 shown_append false d e = refl
 
--- the byte at f is stored next
-pub lower_next : (l : List ℕ) (at : ℕ) (x : List ℕ) (f t : ℕ) → f < t → t ≤ length x
-    → sets l at (shown true (slice f t x)) ≡ sets (set l at (lower_of (get_or x f 0))) (suc at) (shown true (slice (suc f) t x))
-unfolding shown lowered
-lower_next l at x f t h k = ap (λ (d : List ℕ). sets l at (lowered d)) (slice-cons f t x 0 h k)
+-- `make_ascii_lowercase` makes it
+pub lowers : (d : List ℕ) → map to_ascii_lowercase d ≡ lowered d
+unfolding lowered
+lowers [] = refl
+lowers (b ∷ d) = ap₂ ◌∷◌ (one b) (lowers d)
+  where
+    one : (b : ℕ) → to_ascii_lowercase b ≡ lower_of b
+    unfolding lower_of
+    one b = grind (arith, nat_tests)
 
 shown_none : (lower : Bool) → shown lower [] ≡ []
 unfolding shown lowered

@@ -39,8 +39,10 @@ fn put_bytes(out: &mut [u8], o: usize, k: usize, v: u64) -> usize
     requires { Room out.old o (bytes_of k v) }
     ensures { Put out.old out.new o (bytes_of k v) result }
 {
+    let mut w = v;
     for i in 0..k {
-        out[o + i] = (v >> (8 * (k - 1 - i))) as u8;
+        out[o + k - 1 - i] = (w % 256) as u8;
+        w /= 256;
     }
     o + k
 }
