@@ -5,7 +5,7 @@ use Prim.Native.Nat.{ℕ, suc, ◌+◌, ◌*◌, ◌/◌, ◌%◌, ◌^◌, ◌<
 use native.Mathlib.Nat.{add-zero, zero-add, div-add-mod', div-div-eq-div-mul}
 use native.Mathlib.Omega.{arith}
 use lib.ListN.{length, get_or, set, drop}
-use lib.Seq.{sets, sets-eq, set_comm, get_or-append-add}
+use lib.Seq.{slice, slice-cons, sets, sets-eq, set_comm, get_or-append-add}
 use borrow.Rule.Slice.PartMut.{put_mid}
 use Rattle.std.proofs.Common.{append_assoc}
 use Rattle.std.proofs.lemmas.Slice.{put_mid-paste}
@@ -29,6 +29,10 @@ sets_snoc l at (x ∷ xs) b =
 -- stored from the front on: the rest is as found
 pub front : (l b : List ℕ) → length b ≤ length l → sets l 0 b ≡ b ++ drop (length b) l
 front l b h = sets-eq b l 0 (rw (zero-add (length b)) h) ∙ rw (zero-add (length b))
+
+-- the byte at f is stored next
+pub slice_next : (l : List ℕ) (at : ℕ) (x : List ℕ) (f t : ℕ) → f < t → t ≤ length x → sets l at (slice f t x) ≡ sets (set l at (get_or x f 0)) (suc at) (slice (suc f) t x)
+slice_next l at x f t h k = ap (sets l at) (slice-cons f t x 0 h k)
 
 pub word_length : (w : ℕ) → length (word_bytes w) ≡ 4
 unfolding word_bytes

@@ -40,7 +40,7 @@ pub fn put(w: &mut [u8], k: usize, v: Slot)
     emit(w, 20 * k, v);
 }
 
-// The n slots from s on to d on, the first first.
+// The n slots from s on to d on, the first first. Not `copy_within`: where the two parts meet, `copied` puts again what it has put.
 pub fn copy(w: &mut [u8], s: usize, d: usize, n: usize)
     requires { (20 * (s + n) ≤ length w.old) × (20 * (d + n) ≤ length w.old) }
     ensures { slots w.new ≡ copied (slots w.old) s d n }
@@ -51,7 +51,7 @@ pub fn copy(w: &mut [u8], s: usize, d: usize, n: usize)
     }
 }
 
-// The same by bytes, which the compiler moves many at a time: it pays from some twenty slots on.
+// The same by bytes, which the compiler moves many at a time: it pays from some twenty slots on (DECISIONS, D68).
 pub fn copy_long(w: &mut [u8], s: usize, d: usize, n: usize)
     requires { (20 * (s + n) ≤ length w.old) × (20 * (d + n) ≤ length w.old) }
     ensures { slots w.new ≡ copied (slots w.old) s d n }

@@ -35,10 +35,12 @@ pub fn put_word(b: &mut [u8], i: usize, w: u32)
     b[i..i + 4].copy_from_slice(&w.to_le_bytes());
 }
 
-// Copies `len` bytes of `x` from `from` on to `at`.
+// Copies `len` bytes of `x` from `from` on to `at`. Not `copy_from_slice`: the archive would ask for `memmove` (docs/HOST.md).
 pub fn copy(out: &mut [u8], at: usize, x: &[u8], from: usize, len: usize)
     requires { (at + len ≤ length out.old) × (from + len ≤ length x.now) }
     ensures { out.new ≡ sets out.old at (slice from (from + len) x.now) }
 {
-    out[at..at + len].copy_from_slice(&x[from..from + len]);
+    for i in 0..len {
+        out[at + i] = x[from + i];
+    }
 }

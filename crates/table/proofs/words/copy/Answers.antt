@@ -1,13 +1,20 @@
--- `words::copy` meets its contract. Assumes nothing.
+-- `words::copy` meets its contract: what is left to copy, stored after what is copied, is the whole. Assumes nothing.
+use mathlib.Core.Path.{◌≡◌, refl, sym, ◌∙◌}
 use native.Mathlib.Omega.{arith}
-use Prim.Native.Nat.{◌+◌, ◌-◌}
-use lib.Seq.{slice, length-slice}
-use mathlib.Core.Path.{◌∙◌}
-use Rattle.std.proofs.lemmas.Slice.{between_is}
-use Rattle.table.proofs.Stores.{stored}
+use Prim.Native.Nat.{suc, ◌+◌}
+use native.Mathlib.Nat.{add-zero}
+use lib.ListN.{length-set}
+use lib.Seq.{slice_empty}
+use Rattle.table.proofs.Stores.{slice_next}
 use Rattle.table.proofs.words.copy.Goals as goal
+
+pub loop-i-init : goal.loop-i-init
+loop-i-init c = (refl, rw (add-zero c.args.at, add-zero c.args.from))
+
+pub loop-i-preserved : goal.loop-i-preserved
+loop-i-preserved c =
+    let a = c.args in let o = c.loop-i in let e : a.from + (o.i + 1) ≡ suc (a.from + o.i) = omega arith in let f : a.at + (o.i + 1) ≡ suc (a.at + o.i) = omega arith in (simp length-set o.invariant.0, rw (e, f) (sym (slice_next o.out (a.at + o.i) a.x.now (a.from + o.i) (a.from + a.len) (omega arith) (omega arith)) ∙ o.invariant.1))
 
 pub returns : goal.returns
 returns c =
-    let a = c.args in
-    stored a.out.now a.at (a.at + a.len - a.at) _ (slice a.from (a.from + a.len) a.x.now) (c.copy_from_slice.ensures.after ∙ between_is a.x.now a.from (a.from + a.len)) (rw (length-slice a.from (a.from + a.len) a.x.now (omega arith)) (omega arith)) (omega arith)
+    let a = c.args in let e : c.loop-i.i ≡ a.len = omega arith in rw (e, slice_empty) at c.loop-i.invariant.1
