@@ -90,10 +90,8 @@ fn fill(w: &mut [u8], b: usize, n: usize)
     ensures { slots w.new ≡ filled (slots w.old) b n }
 {
     let zero = state::values::zero();
-    let mut i: usize = 0;
-    while i < n {
+    for i in 0..n {
         table::slots::put(w, b + i, zero);
-        i += 1;
     }
 }
 

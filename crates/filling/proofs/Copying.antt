@@ -1,10 +1,17 @@
 -- The text of an identifier in lower case, and of a string as it is, byte by byte. Assumes nothing.
-use mathlib.Core.Path.{◌≡◌, refl, sym, ap}
+use mathlib.Core.Path.{◌≡◌, refl, sym, ap, ap₂, ◌∙◌}
 use mathlib.Core.Bool.{Bool, true, false}
-use mathlib.Core.List.{List, [], ◌∷◌, ◌++◌}
-use Prim.Native.Nat.{ℕ, suc, ◌<◌, ◌≤◌}
-use lib.ListN.{length, get_or, set}
-use lib.Seq.{slice, slice-cons, sets}
+use mathlib.Core.List.{List, [], ◌∷◌, ◌++◌, map}
+use Prim.Native.Nat.{ℕ, suc, ◌+◌, ◌≤◌}
+use lib.ListN.{length, take}
+use lib.Seq.{sets, paste}
+use borrow.Rule.Slice.PartMut.{put_mid}
+use native.Mathlib.Omega.{arith}
+use Rattle.std.specs.Char.{to_ascii_lowercase}
+use Rattle.std.specs.List.{between}
+use Rattle.std.proofs.lemmas.Bool.Decides.{nat_tests}
+use Rattle.std.proofs.lemmas.Slice.{put_mid-paste, take-put_mid_below, drop-put_mid, between-put_mid}
+use Rattle.table.proofs.Stores.{stored}
 use Rattle.tokens.specs.Text.{lower_of, lowered}
 use Rattle.std.specs.Prelude.{Option, Some, None, IsSome}
 use Rattle.tokens.specs.declared.Piece.{Piece}
@@ -24,11 +31,40 @@ shown_append true [] e = refl
 shown_append true (b ∷ d) e = ap (λ (l : List ℕ). lower_of b ∷ l) (shown_append true d e)
 shown_append false d e = refl
 
--- the byte at f is stored next
-pub lower_next : (l : List ℕ) (at : ℕ) (x : List ℕ) (f t : ℕ) → f < t → t ≤ length x
-    → sets l at (shown true (slice f t x)) ≡ sets (set l at (lower_of (get_or x f 0))) (suc at) (shown true (slice (suc f) t x))
-unfolding shown lowered
-lower_next l at x f t h k = ap (λ (d : List ℕ). sets l at (lowered d)) (slice-cons f t x 0 h k)
+-- `make_ascii_lowercase` makes it
+one : (b : ℕ) → to_ascii_lowercase b ≡ lower_of b
+unfolding lower_of
+one b = grind (arith, nat_tests)
+
+lowers : (d : List ℕ) → map to_ascii_lowercase d ≡ lowered d
+unfolding lowered
+lowers [] = refl
+lowers (b ∷ d) = ap₂ ◌∷◌ (one b) (lowers d)
+
+-- k bytes stored, and then others in their place
+module _ (l : List ℕ) (at k : ℕ) (ys : List ℕ) (n : length ys ≡ k) (h : at + k ≤ length l) where
+  put_in : sets l at ys ≡ put_mid at k l ys
+  put_in = sym (stored l at k ys ys refl n h)
+
+  there : between at (at + k) (sets l at ys) ≡ ys
+  there = rw put_in (between-put_mid at k l ys (at + k) (omega arith) (omega arith))
+
+  over : (zs : List ℕ) → length zs ≡ k → put_mid at k (sets l at ys) zs ≡ sets l at zs
+  over zs m =
+      rw put_in (put_mid-paste at k (put_mid at k l ys) zs zs k refl refl (sym m) ∙ pasted ∙ sym (put_mid-paste at k l zs zs k refl refl (sym m))) ∙
+      stored l at k zs zs refl m h
+    where
+      pasted : paste (put_mid at k l ys) at zs k ≡ paste l at zs k
+      pasted =
+          ap₂ (λ (p q : List ℕ). p ++ take k zs ++ q)
+          (take-put_mid_below at k l ys at (omega arith) (omega arith))
+          (drop-put_mid at k l ys (at + k) (omega arith) (omega arith) n)
+
+  pub lowered_over : (out new : List ℕ) → out ≡ sets l at ys → new ≡ map to_ascii_lowercase (between at (at + k) out) → put_mid at k out new ≡ sets l at (shown true ys)
+  unfolding shown
+  lowered_over out new e f =
+      let g : new ≡ lowered ys = f ∙ ap (λ (t : List ℕ). map to_ascii_lowercase (between at (at + k) t)) e ∙ ap (map to_ascii_lowercase) there ∙ lowers ys in
+      ap₂ (put_mid at k) e g ∙ over (lowered ys) (shown_length true ys ∙ n)
 
 shown_none : (lower : Bool) → shown lower [] ≡ []
 unfolding shown lowered

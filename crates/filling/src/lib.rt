@@ -83,14 +83,9 @@ fn put_part(lower: bool, text: &mut [u8], o: usize, s: &[u8], from: usize, len: 
     requires { (o + len ≤ length text.old) × (from + len ≤ length s.now) }
     ensures { text.new ≡ sets text.old o (shown lower (slice from (from + len) s.now)) }
 {
-    if !lower {
-        table::words::copy(text, o, s, from, len);
-        return;
-    }
-    let mut i: usize = 0;
-    while i < len {
-        text[o + i] = pieces::text::lower(s[from + i]);
-        i += 1;
+    table::words::copy(text, o, s, from, len);
+    if lower {
+        text[o..o + len].make_ascii_lowercase();
     }
 }
 

@@ -25,7 +25,7 @@ pub enum Item {
 fn size_of_word(a: u32) -> u64
     ensures { result ≡ nat_abs (to_z w32 a) }
 {
-    numbers::words::of_word(a).unsigned_abs() as u64
+    a.cast_signed().unsigned_abs() as u64
 }
 
 fn number_item(a: u32, b: u32, c: u32) -> Option<Item>

@@ -39,12 +39,10 @@ fn put_bytes(out: &mut [u8], o: usize, k: usize, v: u64) -> usize
     requires { Room out.old o (bytes_of k v) }
     ensures { Put out.old out.new o (bytes_of k v) result }
 {
-    let mut i = k;
     let mut w = v;
-    while 0 < i {
-        i -= 1;
-        out[o + i] = (w % 256) as u8;
-        w = w / 256;
+    for i in 0..k {
+        out[o + k - 1 - i] = (w % 256) as u8;
+        w /= 256;
     }
     o + k
 }
@@ -96,7 +94,7 @@ fn raised_of(a: u32) -> u32
 fn mag_of(a: u32) -> u32
     ensures { result ≡ mag (to_z w32 a) }
 {
-    if a < 2147483648 { a } else { 4294967295 - a }
+    a.min(!a)
 }
 
 // The fewest bytes that hold a number.
@@ -241,14 +239,12 @@ fn cap(n: usize) -> usize
 fn measure(list: &[u8], text: &[u8]) -> Result<usize, Refused>
     ensures { result ≡ measured_of (listed list.now text.now) }
 {
-    let mut at: usize = 0;
     let mut total: usize = 21;
-    while at < list.len() {
+    for at in (0..list.len()).step_by(16) {
         let Some(item) = item_at(list, text, at) else {
             return Err(Refusal::NotWritable.met_at(at / 16));
         };
         total = cap(total + size_of(item));
-        at += 16;
     }
     Ok(total)
 }
@@ -259,12 +255,10 @@ fn put_all(list: &[u8], text: &[u8], out: &mut [u8])
     ensures { out.new ≡ sets out.old 0 (written_of (tokens_in (listed list.now text.now))) }
 {
     table::words::copy(out, 0, b"Interpress/Xerox/3.0 ", 0, 21);
-    let mut at: usize = 0;
     let mut o: usize = 21;
-    while at < list.len() {
+    for at in (0..list.len()).step_by(16) {
         let item = item_at(list, text, at).unwrap();
         o = put_item(out, o, text, item);
-        at += 16;
     }
 }
 

@@ -1,7 +1,7 @@
 -- COUNT: the values above the topmost mark, one turn of its loop at a time. Assumes nothing.
 use mathlib.Core.Path.{◌≡◌}
 use mathlib.Core.List.{List, [], ◌∷◌}
-use Prim.Native.Nat.{ℕ, zero, suc, ◌+◌, ◌-◌, ◌≤◌, ◌<◌}
+use Prim.Native.Nat.{ℕ, zero, suc, ◌+◌, ◌-◌, ◌≤◌, ◌<◌, min}
 use native.Mathlib.Omega.{arith}
 use borrow.Author.Tests.{eq-eqb, ne_eqb}
 use lib.ListN.{length, get_or, drop}
@@ -14,18 +14,18 @@ use Rattle.state.proofs.Parts.{length_stack, stack_at}
 use Rattle.state.proofs.Cutting.{stack_dropped}
 
 -- k values taken off the top, no mark among them
-above_less : (s : List Entry) (k : ℕ) → k + length (beneath s) ≤ length s → k + length (above (drop k s)) ≡ length (above s)
+above_less : (s : List Entry) (k : ℕ) → (0 < k → k + length (beneath s) ≤ length s) → k + length (above (drop k s)) ≡ length (above s)
 unfolding above beneath
 above_less s zero h = omega arith
-above_less [] (suc k) h = absurd (omega arith)
-above_less (val v ∷ s) (suc k) h = omega (arith, above_less s k (omega arith))
-above_less (mark j ∷ s) (suc k) h = absurd (omega arith)
+above_less [] (suc k) h = absurd (omega (arith, h (omega arith)))
+above_less (val v ∷ s) (suc k) h = omega (arith, above_less s k (λ p. omega (arith, h (omega arith))))
+above_less (mark j ∷ s) (suc k) h = absurd (omega (arith, h (omega arith)))
 
 -- no mark stands at `clear` or above: what stands there is counted
-pub count_clear : (m : List Slot) (height clear : ℕ) → length (beneath (stack_of m height)) ≤ clear → clear < height → height - clear + length (above (stack_of m clear)) ≡ length (above (stack_of m height))
-count_clear m height clear h l =
-    let e : height - (height - clear) ≡ clear = omega arith in
-    rw (stack_dropped m (height - clear) height (omega arith), e) at (above_less (stack_of m height) (height - clear) (omega (arith, length_stack m height)))
+pub count_clear : (m : List Slot) (height clear i : ℕ) → length (beneath (stack_of m height)) ≤ clear → i ≡ min height clear → height - i + length (above (stack_of m i)) ≡ length (above (stack_of m height))
+count_clear m height clear i h l =
+    let e : height - (height - i) ≡ i = omega arith in
+    rw (stack_dropped m (height - i) height (omega arith), e) at (above_less (stack_of m height) (height - i) (λ p. omega (arith, length_stack m height)))
 
 module _ {R : ℕ} (m : List Slot) (i n : ℕ) (inv : n + length (above (stack_of m i)) ≡ R) where
   pub count_end : i ≤ 0 → n ≡ R

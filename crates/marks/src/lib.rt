@@ -16,15 +16,8 @@ fn base(w: &[u8], height: usize, clear: usize) -> usize
     requires { (height ≤ 128) × (48000 ≤ length w.now) × (length (beneath (stack_of (slots w.now) height)) ≤ clear) }
     ensures { (result ≤ height) × (height - result ≡ length (above (stack_of (slots w.now) height))) }
 {
-    let mut i = height;
-    if clear < height {
-        i = clear;
-    }
-    while i > 0 {
-        let v = table::slots::get(w, i - 1);
-        if v.kind == 5 {
-            return i;
-        }
+    let mut i = height.min(clear);
+    while i > 0 && table::slots::get(w, i - 1).kind != 5 {
         i -= 1;
     }
     i

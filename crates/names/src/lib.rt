@@ -70,14 +70,12 @@ pub fn same_text(pre: &[u8], body: &[u8], o1: u32, s1: u32, o2: u32, s2: u32) ->
     if n != m {
         return false;
     }
-    let mut i: usize = 0;
-    while i < n {
+    for i in 0..n {
         let a = pieces::text::lower(letter_of(pre, body, o1, x, i));
         let b = pieces::text::lower(letter_of(pre, body, o2, y, i));
         if a != b {
             return false;
         }
-        i += 1;
     }
     true
 }

@@ -9,33 +9,21 @@ ghost use Rattle.tokens.specs.Token.{integer_size, rational_size};
 pub fn integer_size(len: usize) -> bool
     ensures { result ≡ integer_size len }
 {
-    if len < 1 {
-        return false;
-    }
-    len <= 4
+    (1..=4).contains(&len)
 }
 
 // A rational: 2, 4, 6 or 8 bytes.
 pub fn rational_size(len: usize) -> bool
     ensures { result ≡ rational_size len }
 {
-    if len % 2 != 0 {
-        return false;
-    }
-    if len < 2 {
-        return false;
-    }
-    len <= 8
+    len % 2 == 0 && (2..=8).contains(&len)
 }
 
 // An identifier: 1 to 100 bytes.
 pub fn name_size(len: usize) -> bool
     ensures { result ≡ leb 1 len && leb len longest_name }
 {
-    if len < 1 {
-        return false;
-    }
-    len <= 100
+    (1..=100).contains(&len)
 }
 
 // The value of `len` bytes of `s` from `at` on, set after the `had` bytes of value `before`.
@@ -43,11 +31,9 @@ pub fn value_after(before: u64, had: usize, s: &[u8], at: usize, len: usize) -> 
     requires { (had + len ≤ 8) × (before < 2 ^ (8 * had)) × (at + len ≤ length s.now) }
     ensures { (result ≡ value_after before (slice at (at + len) s.now)) × (result < 2 ^ (8 * (had + len))) }
 {
-    let mut v: u64 = before;
-    let mut i: usize = 0;
-    while i < len {
-        v = (v << 8) | (s[at + i] as u64);
-        i += 1;
+    let mut v = before;
+    for &b in &s[at..at + len] {
+        v = (v << 8) | (b as u64);
     }
     v
 }

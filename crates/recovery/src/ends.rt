@@ -12,14 +12,10 @@ fn find(w: &[u8], k: u32, depth: usize) -> usize
     ensures { (result ≤ depth) × (contexts_of (slots w.now) result ≡ from k (contexts_of (slots w.now) depth)) }
 {
     let mut i = depth;
-    while i > 0 {
-        let c = table::slots::get(w, 1752 + (i - 1));
-        if k == c.kind {
-            return i;
-        }
+    while i > 0 && table::slots::get(w, 1752 + (i - 1)).kind != k {
         i -= 1;
     }
-    0
+    i
 }
 
 // Where recovery from this height of the stack and this many contexts ends.

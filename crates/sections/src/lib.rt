@@ -71,12 +71,9 @@ fn put_section(t: &mut [u8], p: usize, w: &[u8], first: usize, n: usize, marks: 
     ensures { (result ≡ p + 4 + 20 * n) × (t.new ≡ sets t.old p (bytes_in (section_words (shown_from marks (slots w.now) first n)))) }
 {
     table::words::put_word(t, p, table::words::word(n));
-    let mut i: usize = 0;
-    while i < n {
+    for i in 0..n {
         let v = table::slots::get(w, first + i);
-        let u = shown(v, marks);
-        table::slots::emit(t, p + 4 + 20 * i, u);
-        i += 1;
+        table::slots::emit(t, p + 4 + 20 * i, shown(v, marks));
     }
     p + 4 + 20 * n
 }

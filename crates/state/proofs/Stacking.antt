@@ -43,9 +43,6 @@ pub has_few : (m : List Slot) (height n : ℕ) → height < n → false ≡ leb 
 has_few m height n h = sym (lt-leb n _ (omega (arith, above_few (stack_of m height), length_stack m height)))
 
 module _ {R : Bool} (m : List Slot) (top left : ℕ) (inv : leb left (length (above (stack_of m top))) ≡ R) where
-  pub has_all : left ≤ 0 → true ≡ R
-  has_all h = sym (le-leb left _ (omega arith)) ∙ inv
-
   module _ (v : Slot) (got : v ≡ get_or m (top - 1) nil) (more : 0 < left) (some_left : left ≤ top) where
     pub has_mark : v.kind ≡ 5 → false ≡ R
     unfolding above entry_in

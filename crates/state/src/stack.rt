@@ -27,15 +27,10 @@ pub fn has(w: &[u8], height: usize, n: usize) -> bool
     if n > height {
         return false;
     }
-    let mut top = height;
-    let mut left = n;
-    while left > 0 {
-        let v = table::slots::get(w, top - 1);
-        if v.kind == 5 {
+    for i in 0..n {
+        if table::slots::get(w, height - 1 - i).kind == 5 {
             return false;
         }
-        top -= 1;
-        left -= 1;
     }
     true
 }

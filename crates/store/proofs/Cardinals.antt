@@ -1,17 +1,19 @@
 -- Whether a value in a slot is a Cardinal, and whether all elements of a vector are. In order: one slot; a part of the cells. Assumes
 -- nothing.
-use mathlib.Core.Path.{◌≡◌, refl, ap, ◌∙◌}
+use mathlib.Core.Path.{◌≡◌, refl, sym, ap, ◌∙◌}
 use mathlib.Core.Bool.{Bool, true, false, cond, ◌&&◌}
 use mathlib.Core.Option.{none, some}
 use mathlib.Core.Logic.{◌⊎◌, inl, inr}
 use mathlib.Core.List.{List}
-use Prim.Native.Nat.{ℕ, suc, ◌+◌, ◌-◌, ◌≤◌, ◌<◌}
+use Prim.Native.Nat.{ℕ, suc, ◌+◌, ◌-◌, ◌≤◌, ◌<◌, min}
 use native.Mathlib.Omega.{arith}
 use borrow.Author.Tests.{eq-eqb, ne_eqb, ltb-false, lt-leb}
 use lib.IntN.{pos, negsuc}
 use lib.Dec.{eqb, leb, ltb}
-use lib.ListN.{get_or, take, drop, drop_of_length-le}
-use lib.Seq.{drop-cons, take-nil}
+use lib.ListN.{length, get_or, take, drop, length-drop}
+use lib.Seq.{drop-cons}
+use Rattle.std.proofs.lemmas.Bool.{cases_lt}
+use Rattle.std.proofs.lemmas.List.{take_all}
 use mir.Syntax.{w32}
 use mir.Val.{to_z, sel}
 use Rattle.numbers.proofs.Cond.{no_left, no_right}
@@ -69,9 +71,16 @@ module _ (m : List Slot) (used : ℕ) where
   abbrev pub cardinals : ℕ → ℕ → Bool
   cardinals k left = all_cardinals (take left (drop k cells))
 
-  pub cells_over : (k left : ℕ) → used ≤ k → cardinals k left ≡ true
-  unfolding all_cardinals
-  cells_over k left h = rw (drop_of_length-le cells {i = k} (rw length_values h), take-nil {A = Value} left)
+  -- those that there are, and no more
+  pub cells_there : (k left n : ℕ) → n ≡ min used (k + left) - k → cardinals k n ≡ cardinals k left
+  cells_there k left n e = go (cases_lt used (k + left))
+    where
+      rest : length (drop k cells) ≡ used - k
+      rest = length-drop k cells ∙ ap (λ (j : ℕ). j - k) (length_values m 728 used)
+
+      go : (used < k + left) ⊎ (k + left ≤ used) → cardinals k n ≡ cardinals k left
+      go (inl h) = ap all_cardinals (take_all n _ (omega (arith, rest)) ∙ sym (take_all left _ (omega (arith, rest))))
+      go (inr h) = ap (cardinals k) (omega arith)
 
   pub none_due : (k left : ℕ) → left ≡ 0 → cardinals k left ≡ true
   unfolding all_cardinals

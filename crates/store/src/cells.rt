@@ -130,18 +130,9 @@ pub fn all_cardinals(w: &[u8], used: usize, first: usize, count: usize) -> bool
     requires { (used ≤ 1024) × (48000 ≤ length w.now) }
     ensures { result ≡ all_cardinals (take count (drop first (values_at (slots w.now) 728 used))) }
 {
-    let mut k = first;
-    let mut left = count;
-    while k < used {
-        if left == 0 {
-            return true;
-        }
-        let v = table::slots::get(w, 728 + k);
-        let cardinal = is_cardinal(v);
-        if cardinal {
-            k += 1;
-            left -= 1;
-        } else {
+    let end = used.min(first.saturating_add(count));
+    for k in first..end {
+        if !is_cardinal(table::slots::get(w, 728 + k)) {
             return false;
         }
     }

@@ -15,21 +15,18 @@ fn put_piece(w: &mut [u8], k: usize, b: &[u8], from: usize, len: usize)
     requires { (20 * (k + len) ≤ length w.old) × (from + len ≤ length b.now) }
     ensures { slots w.new ≡ sets (slots w.old) k (letter_slots (slice from (from + len) b.now)) }
 {
-    let mut i: usize = 0;
-    while i < len {
-        let letter = table::words::wide(b[from + i]);
+    for i in 0..len {
         table::slots::put(
             w,
             k + i,
             Slot {
                 kind: 1,
-                a: letter,
+                a: b[from + i] as u32,
                 b: 1,
                 c: 0,
                 d: 0,
             },
         );
-        i += 1;
     }
 }
 

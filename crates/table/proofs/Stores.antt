@@ -6,6 +6,10 @@ use native.Mathlib.Nat.{add-zero, zero-add, div-add-mod', div-div-eq-div-mul}
 use native.Mathlib.Omega.{arith}
 use lib.ListN.{length, get_or, set, drop}
 use lib.Seq.{slice, slice-cons, sets, sets-eq, set_comm, get_or-append-add}
+use borrow.Rule.Slice.PartMut.{put_mid}
+use Rattle.std.proofs.Common.{append_assoc}
+use Rattle.std.proofs.lemmas.Slice.{put_mid-paste}
+use Rattle.std.proofs.lemmas.List.Edits.{paste_all}
 use Rattle.table.specs.Words.{word_at, word_bytes}
 
 pub sets_append : {A : Type 0} (l : List A) (at : ℕ) (xs ys : List A) → sets (sets l at xs) (at + length xs) ys ≡ sets l at (xs ++ ys)
@@ -55,3 +59,8 @@ word_back p r w h =
     let b : List ℕ = (w % 256) ∷ (w / 256 % 256) ∷ (w / 65536 % 256) ∷ (w / 16777216 % 256) ∷ r in
     let e : get_or (p ++ b) (length p) 0 ≡ w % 256 = rw (add-zero (length p)) at (get_or-append-add p b 0 0) in
     rw (e, get_or-append-add p b 1 0, get_or-append-add p b 2 0, get_or-append-add p b 3 0) (word_joined w h)
+
+-- a copy into the k bytes from at on stores them
+pub stored : (l : List ℕ) (at k : ℕ) (ys zs : List ℕ) → ys ≡ zs → length zs ≡ k → at + k ≤ length l → put_mid at k l ys ≡ sets l at zs
+stored l at k ys zs e n h =
+    put_mid-paste at k l ys zs k e refl (sym n) ∙ (paste_all l at zs k (sym n) ∙ sym (rw (n, append_assoc) at (sets-eq zs l at (rw n h))))

@@ -40,29 +40,24 @@ pub fn put(w: &mut [u8], k: usize, v: Slot)
     emit(w, 20 * k, v);
 }
 
-// The n slots from s on to d on, the first first.
+// The n slots from s on to d on, the first first. Not `copy_within`: where the two parts meet, `copied` puts again what it has put.
 pub fn copy(w: &mut [u8], s: usize, d: usize, n: usize)
     requires { (20 * (s + n) ≤ length w.old) × (20 * (d + n) ≤ length w.old) }
     ensures { slots w.new ≡ copied (slots w.old) s d n }
 {
-    let mut i: usize = 0;
-    while i < n {
+    for i in 0..n {
         let v = get(w, s + i);
         put(w, d + i, v);
-        i += 1;
     }
 }
 
-// The same by bytes, which the compiler moves many at a time: it pays from some twenty slots on.
+// The same by bytes, which the compiler moves many at a time: it pays from some twenty slots on (DECISIONS, D68).
 pub fn copy_long(w: &mut [u8], s: usize, d: usize, n: usize)
     requires { (20 * (s + n) ≤ length w.old) × (20 * (d + n) ≤ length w.old) }
     ensures { slots w.new ≡ copied (slots w.old) s d n }
 {
-    let mut i: usize = 0;
-    let most = 20 * n;
-    while i < most {
+    for i in 0..20 * n {
         w[20 * d + i] = w[20 * s + i];
-        i += 1;
     }
 }
 
@@ -71,9 +66,5 @@ pub fn clear(w: &mut [u8], n: usize)
     requires { n ≤ length w.old }
     ensures { w.new ≡ zeroed n w.old }
 {
-    let mut at: usize = 0;
-    while at < n {
-        w[at] = 0;
-        at += 1;
-    }
+    w[..n].fill(0);
 }

@@ -8,8 +8,8 @@ use lib.Dec.{lit≤, lit<}
 use lib.Arith.{digits_lt}
 use lib.Pow.{shl_exact, pow_mono, pow-add, high, low}
 use lib.Bits.{bit_or, or_shifted}
-use lib.ListN.{length, get_or, take, drop, length-drop, take-append-drop}
-use lib.Seq.{slice, slice-cons, get_or-drop}
+use lib.ListN.{length, take, drop, length-drop, take-append-drop}
+use lib.Seq.{get_or-drop}
 use Rattle.table.proofs.WordLists.{Bytes}
 use Rattle.tokens.specs.Bytes.{value_after}
 
@@ -26,11 +26,6 @@ grows i v b hv hb =
 -- what fits i bytes fits more
 pub wider : (i j : ℕ) {v : ℕ} → i ≤ j → v < 2 ^ (8 * i) → v < 2 ^ (8 * j)
 wider i j h hv = lt_of_lt_of_le hv (pow_mono {i = 8 * i} {j = 8 * j} (omega arith))
-
--- the byte at f is read next
-pub next : (s : List ℕ) (f t v : ℕ) → f < t → t ≤ length s → value_after v (slice f t s) ≡ value_after (v * 256 + get_or s f 0) (slice (suc f) t s)
-unfolding value_after
-next s f t v h k = ap (value_after v) (slice-cons f t s 0 h k)
 
 pub value_append : (a : ℕ) (d e : List ℕ) → value_after a (d ++ e) ≡ value_after (value_after a d) e
 unfolding value_after

@@ -1,5 +1,5 @@
 use mathlib.Core.Path.{◌≡◌}
-use Prim.Native.Nat.{◌+◌, ◌-◌, ◌≤◌}
+use Prim.Native.Nat.{◌+◌}
 use lib.ListN.{length}
 use lib.Seq.{sets}
 use Rattle.table.specs.Slots.{slots}
@@ -8,7 +8,4 @@ use Rattle.sections.proofs.Showing.{entries_bytes}
 use Rattle.sections.proofs.put_section.Given as goal
 
 abbrev pub invariant-loop-i : goal.invariant-loop-i
-invariant-loop-i l = (l.i ≤ l.n) × (length l.t ≡ length l.initial.t) × (l.t ≡ sets l.initial.t (l.p + 4) (entries_bytes (shown_from l.marks (slots l.w) l.first l.i)))
-
-abbrev pub decreases-loop-i : goal.decreases-loop-i
-decreases-loop-i l = l.n - l.i
+invariant-loop-i l = (length l.t ≡ length l.initial.t) × (l.t ≡ sets l.initial.t (l.p + 4) (entries_bytes (shown_from l.marks (slots l.w) l.first l.i)))

@@ -12,8 +12,8 @@ loop-i-init c = search rules
 
 pub loop-i-preserved : goal.loop-i-preserved
 unfolding filled
-loop-i-preserved c = (search rules, search rules, rw add-one (cc))
+loop-i-preserved c = (search rules, rw add-one (cc))
 
 pub returns : goal.returns
 returns c =
-    let e : c.loop-i.i ≡ c.args.n = omega arith in rw (← e) c.loop-i.invariant.2
+    let e : c.loop-i.i ≡ c.args.n = omega arith in rw (← e) c.loop-i.invariant.1

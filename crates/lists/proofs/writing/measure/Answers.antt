@@ -1,6 +1,6 @@
 -- `writing::measure` meets its contract: a turn of the first pass, proofs/Passes.antt. Assumes nothing.
 use Rattle.std.specs.Prelude.{Err, Some}
-use Rattle.std.proofs.Common.{ap, ◌∙◌, arith}
+use Rattle.std.proofs.Common.{ap, ◌∙◌, ◌+◌, arith}
 use Rattle.items.specs.Listing.{entry_at}
 use Rattle.items.specs.Judged.{Judged}
 use Rattle.lists.proofs.Sizes.{small_item}
@@ -29,9 +29,6 @@ size_of-requires c = small_item c.args.text.now c.in-Some.item (judged (goal.at.
 pub overflow_add-total : goal.overflow_add-total
 overflow_add-total c = omega (arith, c.size_of.ensures.1, c.loop-at.invariant.low)
 
-pub overflow_add-at : goal.overflow_add-at
-overflow_add-at c = omega arith
-
 pub loop-at-smaller : goal.loop-at-smaller
 loop-at-smaller c = omega arith
 
@@ -41,6 +38,10 @@ loop-at-preserved c =
     let o = c.loop-at in
     measuring_on a.list.now a.text.now o.at o.total o.invariant (omega arith) _ (judged (goal.at.loop-at-preserved c).In-Some) _ c.size_of.ensures.0 _
     c.cap-total.ensures
+
+-- the last item is judged, and no place is left
+pub returns-then-at-list : goal.returns-then-at-list
+returns-then-at-list c = ?
 
 pub returns : goal.returns
 returns c =

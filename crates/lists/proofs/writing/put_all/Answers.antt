@@ -1,6 +1,6 @@
 -- `writing::put_all` meets its contract: a turn of the second pass, proofs/Passes.antt. Assumes nothing.
 use Rattle.std.specs.Prelude.{Some}
-use Rattle.std.proofs.Common.{length, arith}
+use Rattle.std.proofs.Common.{◌+◌, length, arith}
 use Rattle.tokens.specs.Format.{header}
 use Rattle.items.specs.Listing.{entry_at, listed}
 use Rattle.items.specs.Judged.{Judged}
@@ -35,9 +35,6 @@ put_item-o-requires c =
     putting_room a.list.now a.text.now c.copy.new.out o.out o.at o.o o.invariant (omega arith) (length a.out.now) c.requires c.unwrap-item.result j
     (omega (arith, c.copy.auto))
 
-pub overflow_add-at : goal.overflow_add-at
-overflow_add-at c = omega arith
-
 pub loop-at-smaller : goal.loop-at-smaller
 loop-at-smaller c = omega arith
 
@@ -51,6 +48,14 @@ loop-at-preserved c =
 
 pub shape_of-out : goal.shape_of-out
 shape_of-out c = omega (arith, c.loop-at.invariant.kept, c.copy.auto)
+
+-- the last item is put, and no place is left
+pub returns-2 : goal.returns-2
+unfolding header
+returns-2 c =
+    let a = c.args in
+    let o = c.loop-at in
+    putting_end a.list.now a.text.now c.copy.new.out c.put_item-o.new.out (o.at + 16) c.put_item-o.result (putting_on a.list.now a.text.now c.copy.new.out o.out o.at o.o o.invariant (omega arith) (length a.out.now) c.requires c.item_at.result c.item_at.ensures _ _ c.put_item-o.ensures (omega (arith, c.put_item-o.auto))) (omega arith) a.out.now c.copy.ensures
 
 pub returns : goal.returns
 unfolding header

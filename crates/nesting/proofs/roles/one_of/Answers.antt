@@ -1,4 +1,4 @@
--- `roles::one_of` meets its contract: none of the numbers before i is n, so the rest decides. Assumes nothing.
+-- `roles::one_of` meets its contract: none of the numbers before x is n, so the rest decides. Assumes nothing.
 use mathlib.Core.Bool.{false, ◌||◌}
 use mathlib.Core.List.{List}
 use mathlib.Core.Path.{◌≡◌, refl, sym}
@@ -20,23 +20,23 @@ none : (l : List ℕ) (n : ℕ) → one_of (drop (length l) l) n ≡ false
 unfolding one_of
 none l n = rw drop-length
 
-pub loop-i-init : goal.loop-i-init
-loop-i-init c = (omega arith, refl)
+pub loop-x-init : goal.loop-x-init
+loop-x-init c = refl
 
-pub returns-then-list-i : goal.returns-then-list-i
-returns-then-list-i c =
+pub returns-then-x-n : goal.returns-then-x-n
+returns-then-x-n c =
     let a = c.args in
-    let i : ℕ = c.loop-i.i in
-    rw (step a.list.now a.n i (omega arith), eq-eqb a.n (get_or a.list.now i 0) (sym c.if-list-i.true)) at c.loop-i.invariant.1
+    let i : ℕ = c.loop-x.x-index in
+    rw (step a.list.now a.n i (omega arith), eq-eqb a.n (get_or a.list.now i 0) (sym c.if-x-n.true)) at c.loop-x.invariant
 
-pub loop-i-preserved : goal.loop-i-preserved
-loop-i-preserved c =
+pub loop-x-preserved : goal.loop-x-preserved
+loop-x-preserved c =
     let a = c.args in
-    let i : ℕ = c.loop-i.i in
-    (omega arith, rw (step a.list.now a.n i (omega arith), ne_eqb a.n (get_or a.list.now i 0) (λ e. c.if-list-i.false (sym e))) at c.loop-i.invariant.1)
+    let i : ℕ = c.loop-x.x-index in
+    rw (step a.list.now a.n i (omega arith), ne_eqb a.n (get_or a.list.now i 0) (λ e. c.if-x-n.false (sym e))) at c.loop-x.invariant
 
 pub returns : goal.returns
 returns c =
     let a = c.args in
-    let e : c.loop-i.i ≡ length a.list.now = omega arith in
-    rw (e, none) at c.loop-i.invariant.1
+    let e : c.loop-x.x-index ≡ length a.list.now = omega arith in
+    rw (e, none) at c.loop-x.invariant

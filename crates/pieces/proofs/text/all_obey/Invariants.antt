@@ -1,12 +1,7 @@
 use Rattle.tokens.specs.Text.{every}
-use lib.Seq.{slice}
-use Prim.Native.Nat.{◌+◌, ◌-◌, ◌≤◌}
-use mathlib.Core.Bool.{◌&&◌}
+use lib.ListN.{take}
 use mathlib.Core.Path.{◌≡◌}
 use Rattle.pieces.proofs.text.all_obey.Given as goal
 
-abbrev pub invariant-loop-i : goal.invariant-loop-i
-invariant-loop-i l = (l.i ≤ l.len) × (l.good && every l.rule (slice (l.start + l.i) (l.start + l.len) l.s) ≡ every l.rule (slice l.start (l.start + l.len) l.s))
-
-abbrev pub decreases-loop-i : goal.decreases-loop-i
-decreases-loop-i l = l.len - l.i
+abbrev pub invariant-loop-b : goal.invariant-loop-b
+invariant-loop-b l = l.good ≡ every l.rule (take l.b-index l.b-items)

@@ -1,19 +1,15 @@
-use lib.Dec.{leb}
-use Rattle.numbers.proofs.Cond.{both}
-use borrow.Author.Tests.{leb-true}
-use Rattle.tokens.specs.Text.{lower_of}
+-- `text::lower` meets its contract: std's words for upper case are ours. Assumes nothing.
+use mathlib.Core.Path.{◌≡◌, ◌∙◌}
+use Prim.Native.Nat.{ℕ}
 use native.Mathlib.Omega.{arith}
-use mathlib.Core.Path.{sym, ◌∙◌}
+use Rattle.std.proofs.lemmas.Bool.Decides.{nat_tests}
+use Rattle.tokens.specs.Text.{lower_of}
+use Rattle.std.specs.Char.{to_ascii_lowercase}
 use Rattle.pieces.proofs.text.lower.Goals as goal
 
-pub overflow_add-result : goal.overflow_add-result
-overflow_add-result c =
-    let b = c.args.b in omega (arith, leb-true b 90 (both (leb 65 b) (leb b 90) (sym c.in_range.ensures ∙ c.if-in_range.true)).1)
-
-pub returns-then-in_range : goal.returns-then-in_range
+same : (b : ℕ) → to_ascii_lowercase b ≡ lower_of b
 unfolding lower_of
-returns-then-in_range c = rw (← c.in_range.ensures, c.if-in_range.true)
+same b = grind (arith, nat_tests)
 
 pub returns : goal.returns
-unfolding lower_of
-returns c = rw (← c.in_range.ensures, c.if-in_range.false)
+returns c = c.to_ascii_lowercase.ensures.value ∙ same c.args.b

@@ -13,14 +13,15 @@ pub returns-then-is_letter : goal.returns-then-is_letter
 unfolding obeys
 returns-then-is_letter c = rw (c.in-Named.is, ← c.is_letter.ensures, c.if-is_letter.true)
 
-pub returns-in-Named : goal.returns-in-Named
+pub returns-else-is_letter : goal.returns-else-is_letter
 unfolding obeys
-returns-in-Named c = rw (c.in-Named.is, ← c.is_letter.ensures, c.if-is_letter.false, c.is_mark.ensures)
+returns-else-is_letter c = rw (c.in-Named.is, ← c.is_letter.ensures, c.if-is_letter.false, c.is_mark.ensures)
 
-pub returns-then-in_range : goal.returns-then-in_range
+pub returns-then-is_ascii_lowercase : goal.returns-then-is_ascii_lowercase
 unfolding obeys
-returns-then-in_range c = rw (c.in-Lowered.is, ← c.in_range.ensures, c.if-in_range.true)
+returns-then-is_ascii_lowercase c = rw (c.in-Lowered.is, ← c.is_ascii_lowercase.ensures.value, c.if-is_ascii_lowercase.true)
 
-pub returns-in-Lowered : goal.returns-in-Lowered
+pub returns-else-is_ascii_lowercase : goal.returns-else-is_ascii_lowercase
 unfolding obeys
-returns-in-Lowered c = rw (c.in-Lowered.is, ← c.in_range.ensures, c.if-in_range.false, c.is_mark-in-Lowered.ensures)
+returns-else-is_ascii_lowercase c =
+    rw (c.in-Lowered.is, ← c.is_ascii_lowercase.ensures.value, c.if-is_ascii_lowercase.false, c.is_mark-else-is_ascii_lowercase.ensures)

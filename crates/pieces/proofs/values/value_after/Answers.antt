@@ -1,48 +1,42 @@
--- The loop reads one byte a turn: what is read with the rest is the whole, and the bytes read fit. Assumes nothing.
-use mathlib.Core.Path.{◌≡◌, sym, ◌∙◌}
-use Prim.Native.Nat.{ℕ, suc, ◌<◌, ◌+◌}
+-- What is read so far is the value of the bytes before this one, and fits. Assumes nothing.
+use mathlib.Core.Path.{◌≡◌, refl, sym, ap, ◌∙◌}
+use mathlib.Core.List.{List}
+use Prim.Native.Nat.{ℕ, ◌<◌, ◌+◌, ◌*◌}
 use native.Mathlib.Nat.{add-zero}
-use lib.ListN.{get_or}
-use lib.Seq.{slice_empty}
 use native.Mathlib.Omega.{arith}
+use lib.ListN.{length, get_or, take}
+use Rattle.std.proofs.lemmas.List.{take_more, take_all}
+use Rattle.std.proofs.lemmas.List.Edits.{length-between, get_or-between}
+use Rattle.std.proofs.lemmas.Slice.{between_is}
+use Rattle.std.specs.List.{between}
 use Rattle.tokens.specs.Bytes.{value_after}
-use Rattle.tokens.proofs.HighFirst.{shl_or, grows, wider, next}
+use Rattle.tokens.proofs.HighFirst.{shl_or, grows, wider, value_append}
 use Rattle.pieces.proofs.values.value_after.Goals as goal
 
-pub loop-i-init : goal.loop-i-init
-loop-i-init c = (omega arith, rw add-zero c.requires.1, rw add-zero)
+more : (a : ℕ) (s : List ℕ) (i : ℕ) → i < length s → value_after a (take (i + 1) s) ≡ value_after a (take i s) * 256 + get_or s i 0
+unfolding value_after
+more a s i h = ap (value_after a) (take_more s i 0 h) ∙ value_append a (take i s) _
 
-pub overflow_add-v : goal.overflow_add-v
-overflow_add-v c = omega arith
+pub loop-b-init : goal.loop-b-init
+unfolding value_after
+loop-b-init c = (rw add-zero c.requires.1, refl)
 
-pub bounds-s-at : goal.bounds-s-at
-bounds-s-at c = omega arith
-
-pub overflow_cast-v : goal.overflow_cast-v
-overflow_cast-v c = omega (arith, c.shared_slice_known-1.given (c.args.at + c.loop-i.i))
-
-pub overflow_add-i : goal.overflow_add-i
-overflow_add-i c = omega arith
-
-pub loop-i-smaller : goal.loop-i-smaller
-loop-i-smaller c = omega arith
-
-pub loop-i-preserved : goal.loop-i-preserved
-loop-i-preserved c =
+pub loop-b-preserved : goal.loop-b-preserved
+loop-b-preserved c =
     let a = c.args in
-    let i : ℕ = c.loop-i.i in
-    let v : ℕ = c.loop-i.v in
-    let inv = c.loop-i.invariant in
-    let b : ℕ = get_or a.s.now (a.at + i) 0 in
-    let hb : b < 256 = omega (arith, c.shared_slice_known-1.given (a.at + i)) in
-    let e = shl_or v b (wider (a.had + i) 7 (omega arith) inv.1) hb in
-    let f : a.at + (i + 1) ≡ suc (a.at + i) = omega arith in
-    let g : a.had + (i + 1) ≡ a.had + i + 1 = omega arith in
-    (omega arith, rw (e, g) (grows (a.had + i) v b inv.1 hb), rw (e, f) (sym (next a.s.now (a.at + i) (a.at + a.len) v (omega arith) (omega arith)) ∙ inv.2))
+    let o = c.loop-b in
+    let s : List ℕ = between a.at (a.at + a.len) a.s.now in
+    let n : length s ≡ a.len = length-between a.s.now a.at (a.at + a.len) c.requires.2 ∙ omega arith in
+    let hb : get_or s o.b-index 0 < 256 = rw (get_or-between a.s.now a.at (a.at + a.len) o.b-index 0 (omega arith)) (omega (arith, c.type_inv.s (a.at + o.b-index))) in
+    let e = shl_or o.v (get_or s o.b-index 0) (wider (a.had + o.b-index) 7 (omega arith) o.invariant.0) hb in
+    let g : a.had + (o.b-index + 1) ≡ a.had + o.b-index + 1 = omega arith in
+    (rw (e, g) (grows (a.had + o.b-index) o.v _ o.invariant.0 hb), e ∙ ap (λ (v : ℕ). v * 256 + get_or s o.b-index 0) o.invariant.1 ∙ sym (more a.before s o.b-index c.loop-b-test.true))
 
 pub returns : goal.returns
-unfolding value_after
 returns c =
     let a = c.args in
-    let e : c.loop-i.i ≡ a.len = omega arith in
-    (rw (e, slice_empty) at c.loop-i.invariant.2, rw e at c.loop-i.invariant.1)
+    let o = c.loop-b in
+    let s : List ℕ = between a.at (a.at + a.len) a.s.now in
+    let n : length s ≡ a.len = length-between a.s.now a.at (a.at + a.len) c.requires.2 ∙ omega arith in
+    let e : o.b-index ≡ a.len = omega arith in
+    (o.invariant.1 ∙ ap (value_after a.before) (take_all o.b-index s c.loop-b-test.false ∙ between_is a.s.now a.at (a.at + a.len)), rw e at o.invariant.0)

@@ -5,7 +5,4 @@ use Rattle.store.proofs.Cardinals.{cardinals}
 use Rattle.store.proofs.cells.all_cardinals.Given as goal
 
 abbrev pub invariant-loop-k : goal.invariant-loop-k
-invariant-loop-k l = cardinals (slots l.w) l.used l.k l.left ≡ cardinals (slots l.w) l.used l.first l.count
-
-abbrev pub decreases-loop-k : goal.decreases-loop-k
-decreases-loop-k l = l.used - l.k
+invariant-loop-k l = cardinals (slots l.w) l.used l.k (l.end - l.k) ≡ cardinals (slots l.w) l.used l.first l.count

@@ -11,13 +11,13 @@ use native.Mathlib.Omega.{arith}
 use Rattle.store.proofs.letters.put_piece.Goals as goal
 
 pub loop-i-init : goal.loop-i-init
-loop-i-init c = (omega arith, refl, rw (add-zero c.args.k, add-zero c.args.from))
+loop-i-init c = (refl, rw (add-zero c.args.k, add-zero c.args.from))
 
 pub loop-i-preserved : goal.loop-i-preserved
 loop-i-preserved c =
-    let a = c.args in let o = c.loop-i in let e : a.from + (o.i + 1) ≡ suc (a.from + o.i) = omega arith in let f : a.k + (o.i + 1) ≡ suc (a.k + o.i) = omega arith in (omega arith, search rules, rw (e, f, c.put.ensures, c.wide-letter.ensures.0) (sym (letter_next (slots o.w) (a.k + o.i) a.b.now (a.from + o.i) (a.from + a.len) (omega arith) (omega arith)) ∙ o.invariant.2))
+    let a = c.args in let o = c.loop-i in let e : a.from + (o.i + 1) ≡ suc (a.from + o.i) = omega arith in let f : a.k + (o.i + 1) ≡ suc (a.k + o.i) = omega arith in (search rules, rw (e, f, c.put.ensures) (sym (letter_next (slots o.w) (a.k + o.i) a.b.now (a.from + o.i) (a.from + a.len) (omega arith) (omega arith)) ∙ o.invariant.1))
 
 pub returns : goal.returns
 unfolding letter_slots
 returns c =
-    let a = c.args in let e : c.loop-i.i ≡ a.len = omega arith in rw (e, slice_empty) at c.loop-i.invariant.2
+    let a = c.args in let e : c.loop-i.i ≡ a.len = omega arith in rw (e, slice_empty) at c.loop-i.invariant.1

@@ -1,5 +1,5 @@
 use mathlib.Core.Path.{◌≡◌}
-use Prim.Native.Nat.{◌+◌, ◌-◌, ◌≤◌}
+use Prim.Native.Nat.{◌+◌}
 use lib.ListN.{length}
 use lib.Seq.{sets, slice}
 use Rattle.table.specs.Slots.{slots}
@@ -7,7 +7,4 @@ use Rattle.state.specs.Operations.{letter_slots}
 use Rattle.store.proofs.letters.put_piece.Given as goal
 
 abbrev pub invariant-loop-i : goal.invariant-loop-i
-invariant-loop-i l = (l.i ≤ l.len) × (length l.w ≡ length l.initial.w) × (sets (slots l.w) (l.k + l.i) (letter_slots (slice (l.from + l.i) (l.from + l.len) l.b)) ≡ sets (slots l.initial.w) l.k (letter_slots (slice l.from (l.from + l.len) l.b)))
-
-abbrev pub decreases-loop-i : goal.decreases-loop-i
-decreases-loop-i l = l.len - l.i
+invariant-loop-i l = (length l.w ≡ length l.initial.w) × (sets (slots l.w) (l.k + l.i) (letter_slots (slice (l.from + l.i) (l.from + l.len) l.b)) ≡ sets (slots l.initial.w) l.k (letter_slots (slice l.from (l.from + l.len) l.b)))

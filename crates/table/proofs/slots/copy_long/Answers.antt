@@ -13,8 +13,8 @@ loop-i-init c = search rules
 
 pub loop-i-preserved : goal.loop-i-preserved
 unfolding moved
-loop-i-preserved c = (search rules, search rules, rw add-one (cc))
+loop-i-preserved c = (search rules, rw add-one (cc))
 
 pub returns : goal.returns
 returns c =
-    let a = c.args in let e : c.loop-i.i ≡ 20 * a.n = omega arith in rw (c.loop-i.invariant.2, e) (slots_moved a.w.now a.s a.d a.n (omega arith) (omega arith))
+    let a = c.args in let e : c.loop-i.i ≡ 20 * a.n = omega arith in rw (c.loop-i.invariant.1, e) (slots_moved a.w.now a.s a.d a.n (omega arith) (omega arith))

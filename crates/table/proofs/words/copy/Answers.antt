@@ -9,33 +9,12 @@ use Rattle.table.proofs.Stores.{slice_next}
 use Rattle.table.proofs.words.copy.Goals as goal
 
 pub loop-i-init : goal.loop-i-init
-loop-i-init c = (omega arith, refl, rw (add-zero c.args.at, add-zero c.args.from))
-
-pub overflow_add-out : goal.overflow_add-out
-overflow_add-out c = omega arith
-
-pub bounds-x-from : goal.bounds-x-from
-bounds-x-from c = omega arith
-
-pub overflow_add-out-in-loop-i : goal.overflow_add-out-in-loop-i
-overflow_add-out-in-loop-i c = omega arith
-
-pub bounds-out-at : goal.bounds-out-at
-bounds-out-at c = omega arith
-
-pub overflow_add-i : goal.overflow_add-i
-overflow_add-i c = omega arith
-
-pub loop-i-smaller : goal.loop-i-smaller
-loop-i-smaller c = omega arith
+loop-i-init c = (refl, rw (add-zero c.args.at, add-zero c.args.from))
 
 pub loop-i-preserved : goal.loop-i-preserved
 loop-i-preserved c =
-    let a = c.args in let o = c.loop-i in let e : a.from + (o.i + 1) ≡ suc (a.from + o.i) = omega arith in let f : a.at + (o.i + 1) ≡ suc (a.at + o.i) = omega arith in (omega arith, simp length-set o.invariant.1, rw (e, f) (sym (slice_next o.out (a.at + o.i) a.x.now (a.from + o.i) (a.from + a.len) (omega arith) (omega arith)) ∙ o.invariant.2))
-
-pub shape_of-out : goal.shape_of-out
-shape_of-out c = c.loop-i.invariant.1
+    let a = c.args in let o = c.loop-i in let e : a.from + (o.i + 1) ≡ suc (a.from + o.i) = omega arith in let f : a.at + (o.i + 1) ≡ suc (a.at + o.i) = omega arith in (simp length-set o.invariant.0, rw (e, f) (sym (slice_next o.out (a.at + o.i) a.x.now (a.from + o.i) (a.from + a.len) (omega arith) (omega arith)) ∙ o.invariant.1))
 
 pub returns : goal.returns
 returns c =
-    let a = c.args in let e : c.loop-i.i ≡ a.len = omega arith in rw (e, slice_empty) at c.loop-i.invariant.2
+    let a = c.args in let e : c.loop-i.i ≡ a.len = omega arith in rw (e, slice_empty) at c.loop-i.invariant.1

@@ -1,11 +1,8 @@
 use mathlib.Core.Path.{◌≡◌}
-use Prim.Native.Nat.{◌+◌, ◌-◌, ◌≤◌}
+use Prim.Native.Nat.{◌+◌}
 use lib.ListN.{length}
 use lib.Seq.{sets, slice}
 use Rattle.table.proofs.words.copy.Given as goal
 
 abbrev pub invariant-loop-i : goal.invariant-loop-i
-invariant-loop-i l = (l.i ≤ l.len) × (length l.out ≡ length l.initial.out) × (sets l.out (l.at + l.i) (slice (l.from + l.i) (l.from + l.len) l.x) ≡ sets l.initial.out l.at (slice l.from (l.from + l.len) l.x))
-
-abbrev pub decreases-loop-i : goal.decreases-loop-i
-decreases-loop-i l = l.len - l.i
+invariant-loop-i l = (length l.out ≡ length l.initial.out) × (sets l.out (l.at + l.i) (slice (l.from + l.i) (l.from + l.len) l.x) ≡ sets l.initial.out l.at (slice l.from (l.from + l.len) l.x))

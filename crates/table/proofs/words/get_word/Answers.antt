@@ -4,4 +4,4 @@ use Rattle.table.proofs.words.get_word.Goals as goal
 
 pub returns : goal.returns
 unfolding word_at
-returns c = rw (c.wide-4.ensures.0, c.wide-3.ensures.0, c.wide-2.ensures.0, c.wide.ensures.0)
+returns c = c.from_le_bytes.ensures

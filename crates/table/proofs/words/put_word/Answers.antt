@@ -1,19 +1,13 @@
 -- `words::put_word` meets its contract. Assumes nothing.
 use native.Mathlib.Omega.{arith}
-use lib.ListN.{length-set}
-use native.Mathlib.Numerals.{towards_suc}
+use mathlib.Core.Path.{◌∙◌}
+use Prim.Native.Nat.{◌+◌, ◌-◌}
 use Rattle.table.specs.Words.{word_bytes}
+use Rattle.table.proofs.Stores.{stored, word_length}
 use Rattle.table.proofs.words.put_word.Goals as goal
-
-pub bounds-b-i-2 : goal.bounds-b-i-2
-bounds-b-i-2 c = simp length-set (omega arith)
-
-pub bounds-b-i-3 : goal.bounds-b-i-3
-bounds-b-i-3 c = simp length-set (omega arith)
-
-pub bounds-b-i-4 : goal.bounds-b-i-4
-bounds-b-i-4 c = simp length-set (omega arith)
 
 pub returns : goal.returns
 unfolding word_bytes
-returns c = simp towards_suc
+returns c =
+    let a = c.args in
+    stored a.b.now a.i (a.i + 4 - a.i) _ (word_bytes a.w) (c.copy_from_slice.ensures.after ∙ c.to_le_bytes.ensures) (rw word_length (omega arith)) (omega arith)
