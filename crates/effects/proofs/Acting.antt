@@ -1,4 +1,5 @@
 -- The engine's part of an operator, arm by arm. Assumes nothing.
+use Rattle.std.specs.Prelude.{Option, Some, None}
 use Prim.Native.Nat.{ℕ, ◌+◌, ◌<◌, ◌≤◌}
 use native.Mathlib.Omega.{arith}
 use mathlib.Core.Path.{◌≡◌, refl}
@@ -19,7 +20,7 @@ use Rattle.machine.specs.declared.Work.TheVariants.{Nothing, Fetch, Element, Bui
 use Rattle.machine.specs.declared.Next.{Next}
 use Rattle.machine.specs.declared.Next.TheVariants.{Works, Inline, Call, Store, Place, Remove, Tally}
 use Rattle.machine.specs.declared.Effect.{Effect}
-use Rattle.machine.specs.declared.Effect.TheVariants.{Fail, Gives, Gives2, Acts}
+use Rattle.machine.specs.declared.Effect.TheVariants.{Gives, Gives2, Acts}
 use Rattle.machine.specs.State.{Entry, val, mark}
 use Rattle.machine.specs.Literal.{Code, text_of}
 use Rattle.machine.specs.Operand.{natural}
@@ -116,7 +117,7 @@ sized_works x k h e = rw e at h
 pub sized_inline : (x : Next) (s l : ℕ) (o : Bool) → SizedNext x → x ≡ Inline s l o → s + l < 4294967296
 sized_inline x s l o h e = rw e at h
 
-pub sized_acts : (e : Effect) (x : Next) → Sized e → e ≡ Acts x → SizedNext x
+pub sized_acts : (e : Option Effect) (x : Next) → Sized e → e ≡ Some (Acts x) → SizedNext x
 sized_acts e x h i = rw i at h
 
 -- ---- the works
@@ -196,26 +197,26 @@ module _ {w w' : List ℕ} {r r' : Registers} (code : Code) (x : Next) where
 
 -- ---- an effect
 
-module _ {w : List ℕ} {r : Registers} (code : Code) (e : Effect) where
-  pub is_fail : {r' : Registers} → Busy w r → e ≡ Fail → r' ≡ failed r → Tried (affected code e) w r w r'
+module _ {w : List ℕ} {r : Registers} (code : Code) (e : Option Effect) where
+  pub is_fail : {r' : Registers} → Busy w r → e ≡ None → r' ≡ failed r → Tried (affected code e) w r w r'
   unfolding affected
   is_fail {r'} g i q = tried_no g (rw i) q
 
   module _ {w' : List ℕ} {r' : Registers} where
-    pub is_gives : (a : num.Number) → e ≡ Gives a → Tried (push (Number a)) w r w' r' → Tried (affected code e) w r w' r'
+    pub is_gives : (a : num.Number) → e ≡ Some (Gives a) → Tried (push (Number a)) w r w' r' → Tried (affected code e) w r w' r'
     unfolding affected
     is_gives a i t = rw i t
 
-    pub is_gives2 : (a b : num.Number) → e ≡ Gives2 a b → Tried (table.push_two (Number a) (Number b)) w r w' r' → Tried (affected code e) w r w' r'
+    pub is_gives2 : (a b : num.Number) → e ≡ Some (Gives2 a b) → Tried (table.push_two (Number a) (Number b)) w r w' r' → Tried (affected code e) w r w' r'
     unfolding affected table.push_two
     is_gives2 a b i t = rw i t
 
-    pub is_acts : (x : Next) → e ≡ Acts x → Tried (does code x) w r w' r' → Tried (affected code e) w r w' r'
+    pub is_acts : (x : Next) → e ≡ Some (Acts x) → Tried (does code x) w r w' r' → Tried (affected code e) w r w' r'
     unfolding affected
     is_acts x i t = rw i t
 
     -- the same effect, told by its parts
-    pub is_told : (f : Effect) → e ≡ f → Tried (affected code f) w r w' r' → Tried (affected code e) w r w' r'
+    pub is_told : (f : Option Effect) → e ≡ f → Tried (affected code f) w r w' r' → Tried (affected code e) w r w' r'
     is_told f i t = rw i t
 
 -- ---- marks stand within the stack

@@ -1,4 +1,5 @@
 -- Tests on what an operator read: ERROR's codes, AND and OR, EQ. Assumes nothing.
+use Rattle.std.specs.Prelude.{Some}
 use mathlib.Core.Path.{◌≡◌, refl}
 use mathlib.Core.Bool.{true, false, not, ◌&&◌, ◌||◌}
 use mathlib.Core.List.{[], ◌∷◌}
@@ -60,7 +61,7 @@ eq_number a (Identifier origin start len) e h = rw e
 eq_number a (Vector first lower count) e h = rw e
 eq_number a (Operator origin start len first) e h = rw e
 
-pub eq_identifiers : {x y : Value} (o s l p t m : ℕ) → x ≡ Identifier o s l → y ≡ Identifier p t m → Acts (Works (Match x y)) ≡ equals x y
+pub eq_identifiers : {x y : Value} (o s l p t m : ℕ) → x ≡ Identifier o s l → y ≡ Identifier p t m → Some (Acts (Works (Match x y))) ≡ equals x y
 unfolding equals
 eq_identifiers o s l p t m e h = rw (e, h)
 

@@ -1,4 +1,5 @@
 -- `test::effect` meets its contract. Assumes nothing.
+use Rattle.std.specs.Prelude.{Some}
 use mathlib.Core.Path.{ap, ◌∙◌}
 use Rattle.machine.specs.Ops.Test.{test_effect}
 use Rattle.machine.specs.declared.Effect.TheVariants.{Gives}
@@ -36,4 +37,4 @@ returns-in-Not c = rw c.in-Not.is (c.not.ensures.0 c.args.y, c.not.ensures.1)
 
 pub returns-in-TypeOf : goal.returns-in-TypeOf
 unfolding test_effect
-returns-in-TypeOf c = rw c.in-TypeOf.is (ap Gives (c.natural.ensures ∙ ap natural c.type_number.ensures.0), tt)
+returns-in-TypeOf c = rw c.in-TypeOf.is (ap Some (Gives (c.natural.ensures ∙ ap natural c.type_number.ensures.0)), tt)
