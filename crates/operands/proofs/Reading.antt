@@ -3,21 +3,21 @@
 use Rattle.std.specs.Prelude.{Option, Some, None}
 use mathlib.Core.Path.{◌≡◌, refl}
 use mathlib.Core.Bool.{Bool, true, false, cond}
-use mathlib.Core.Option.{none, some}
 use Prim.Native.Nat.{ℕ, ◌≤◌, ◌<◌}
 use native.Mathlib.Omega.{arith}
 use borrow.Author.Tests.{eq-eqb, ne_eqb, le-leb, lt-leb}
 use lib.IntN.{ℤ, pos, negsuc}
 use lib.Signed.{mag}
 use mir.Syntax.{w32}
-use mir.Val.{to_z, of_z}
+use mir.Val.{to_z, of_z, bool_byte}
 use mir.Facts.{to_z-of_z}
 use Rattle.numbers.specs.declared.Number as num
 use Rattle.machine.specs.declared.Value.{Value}
 use Rattle.machine.specs.declared.Value.TheVariants.{Number, Identifier, Vector, Operator}
 use Rattle.machine.specs.declared.Effect.{Effect}
-use Rattle.machine.specs.Operand.{cardinal_in, cardinal?, if_some, as_cardinal, as_number, as_vector, as_operator}
-use Rattle.operands.specs.Operands.{card_of, Within, figure_of}
+use Rattle.machine.specs.declared.Effect.TheVariants.{Gives}
+use Rattle.machine.specs.Operand.{cardinal_in, cardinal?, if_some, as_cardinal, as_number, as_vector, as_operator, natural, whether}
+use Rattle.operands.specs.Operands.{Within, figure_of}
 use Rattle.operands.specs.Sizes.{Small}
 
 -- ---- a value that is not of a kind
@@ -41,7 +41,7 @@ other_figure (Identifier origin start len) h = refl
 other_figure (Vector first lower count) h = refl
 other_figure (Operator origin start len first) h = refl
 
-pub other_card : (v : Value) → NoNumber v → none ≡ cardinal? v
+pub other_card : (v : Value) → NoNumber v → None ≡ cardinal? v
 unfolding cardinal?
 other_card (Number a) h = absurd (h a refl)
 other_card (Identifier origin start len) h = refl
@@ -64,7 +64,7 @@ no_operator (Operator origin start len first) f h = absurd (h origin start len f
 
 -- ---- a Cardinal: a denominator 1, and a numerator whose bits are not above the largest
 
-pub part_in : (z : ℤ) (d : ℕ) → (d ≡ 1 → ⊥) → none ≡ cardinal_in z d
+pub part_in : (z : ℤ) (d : ℕ) → (d ≡ 1 → ⊥) → None ≡ cardinal_in z d
 unfolding cardinal_in
 part_in (pos k) d n = rw (ne_eqb d 1 n)
 part_in (negsuc k) d n = refl
@@ -72,19 +72,19 @@ part_in (negsuc k) d n = refl
 bits_of : (z : ℤ) (n : ℕ) → mag z < 2147483648 → n ≡ of_z w32 (to_z w32 (of_z w32 z)) → n ≡ of_z w32 z
 bits_of z n small word = rw (to_z-of_z {w = w32} {z = z} (record { sfits = small })) at word
 
-pub large_in : (z : ℤ) (d n : ℕ) → d ≡ 1 → mag z < 2147483648 → n ≡ of_z w32 (to_z w32 (of_z w32 z)) → 16777215 < n → none ≡ cardinal_in z d
+pub large_in : (z : ℤ) (d n : ℕ) → d ≡ 1 → mag z < 2147483648 → n ≡ of_z w32 (to_z w32 (of_z w32 z)) → 16777215 < n → None ≡ cardinal_in z d
 unfolding cardinal_in
 large_in (pos k) d n one small word h = rw (eq-eqb d 1 one, lt-leb k 16777215 (omega (arith, bits_of (pos k) n small word)))
 large_in (negsuc k) d n one small word h = refl
 
-pub is_in : (z : ℤ) (d n : ℕ) → d ≡ 1 → mag z < 2147483648 → n ≡ of_z w32 (to_z w32 (of_z w32 z)) → n ≤ 16777215 → some n ≡ cardinal_in z d
+pub is_in : (z : ℤ) (d n : ℕ) → d ≡ 1 → mag z < 2147483648 → n ≡ of_z w32 (to_z w32 (of_z w32 z)) → n ≤ 16777215 → Some n ≡ cardinal_in z d
 unfolding cardinal_in
 is_in (pos k) d n one small word h = rw (eq-eqb d 1 one, le-leb k 16777215 (omega (arith, bits_of (pos k) n small word)), bits_of (pos k) n small word)
 is_in (negsuc k) d n one small word h = absurd (omega (arith, bits_of (negsuc k) n small word))
 
 -- ---- an operand that was read: k is what was told of it
 
-module _ (x : Value) {k : Option ℕ} (f : ℕ → Option Effect) (told : card_of k ≡ cardinal? x) where
+module _ (x : Value) {k : Option ℕ} (f : ℕ → Option Effect) (told : k ≡ cardinal? x) where
   pub no_card : k ≡ None → None ≡ as_cardinal x f
   unfolding as_cardinal if_some
   no_card e = rw (← told, e)
@@ -126,6 +126,11 @@ pub small_vector : {x : Value} {a l n : ℕ} → Small x → x ≡ Vector a l n 
 small_vector h e = rw e at h
 
 -- ---- a test of operands
+
+pub whether_lem : (b : Bool) {n : ℕ} {a : num.Number} → n ≡ bool_byte b → a ≡ natural n → Some (Gives a) ≡ whether b
+unfolding whether
+whether_lem true e h = rw (h, e)
+whether_lem false e h = rw (h, e)
 
 pub when_so : {b : Bool} (s t : Option Effect) → b ≡ true → s ≡ cond b s t
 when_so s t h = rw h
