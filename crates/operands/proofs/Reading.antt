@@ -1,7 +1,7 @@
 -- What is read of an operand, and what an operator makes of it. In order: a value by its kind; a Cardinal; the definitions of `machine`
 -- on a value that was read; a test of operands. Assumes nothing.
 use Rattle.std.specs.Prelude.{Option, Some, None}
-use mathlib.Core.Path.{◌≡◌, refl}
+use mathlib.Core.Path.{◌≡◌, refl, ◌∙◌}
 use mathlib.Core.Bool.{Bool, true, false, cond}
 use Prim.Native.Nat.{ℕ, ◌≤◌, ◌<◌}
 use native.Mathlib.Omega.{arith}
@@ -18,7 +18,7 @@ use Rattle.machine.specs.declared.Effect.{Effect}
 use Rattle.machine.specs.declared.Effect.TheVariants.{Gives}
 use Rattle.machine.specs.Operand.{cardinal_in, cardinal?, if_some, as_cardinal, as_number, as_vector, as_operator, natural, whether}
 use Rattle.operands.specs.Operands.{Within, figure_of}
-use Rattle.operands.specs.Sizes.{Small}
+use Rattle.operands.specs.Sizes.{Small, Sized}
 
 -- ---- a value that is not of a kind
 
@@ -124,6 +124,10 @@ is_operator f e = rw e
 
 pub small_vector : {x : Value} {a l n : ℕ} → Small x → x ≡ Vector a l n → (a < 2147483648) × (l < 2147483648) × (n < 2147483648)
 small_vector h e = rw e at h
+
+-- nothing is given: r is what the function ends with
+pub nothing : {r e : Option Effect} → r ≡ None → None ≡ e → (r ≡ e) × Sized r
+nothing p q = (p ∙ q, rw p tt)
 
 -- ---- a test of operands
 
