@@ -36,7 +36,7 @@ harsh_code n h = rw (ne_eqb n 10 (λ e. h (inl e)), ne_eqb n 50 (λ e. h (inr (i
 -- ---- AND, OR
 
 module _ (a b : ℕ) where
-  pub and_off : a ≡ 0 → whether false ≡ whether (not (eqb a 0) && not (eqb b 0))
+  pub and_off : a ≡ 0 → whether (not (eqb a 0)) ≡ whether (not (eqb a 0) && not (eqb b 0))
   and_off e = rw (eq-eqb a 0 e)
 
   pub and_on : (a ≡ 0 → ⊥) → whether (not (eqb b 0)) ≡ whether (not (eqb a 0) && not (eqb b 0))
@@ -45,7 +45,7 @@ module _ (a b : ℕ) where
   pub or_off : a ≡ 0 → whether (not (eqb b 0)) ≡ whether (not (eqb a 0) || not (eqb b 0))
   or_off e = rw (eq-eqb a 0 e)
 
-  pub or_on : (a ≡ 0 → ⊥) → whether true ≡ whether (not (eqb a 0) || not (eqb b 0))
+  pub or_on : (a ≡ 0 → ⊥) → whether (not (eqb a 0)) ≡ whether (not (eqb a 0) || not (eqb b 0))
   or_on n = rw (ne_eqb a 0 n)
 
 -- ---- EQ

@@ -21,7 +21,8 @@ fn if_so(start: u32, len: u32, x: Value) -> Option<Effect>
     requires { start + len < 4294967296 }
     ensures { (result ≡ body_effect If start len x) × Sized result }
 {
-    if values::cardinal(x)? == 0 {
+    let i = values::cardinal(x)?;
+    if i == 0 {
         return Some(Effect::Acts(Next::Works(Work::Nothing)));
     }
     Some(Effect::Acts(Next::Inline {
@@ -36,7 +37,8 @@ fn if_else(start: u32, len: u32, x: Value) -> Option<Effect>
     requires { start + len < 4294967296 }
     ensures { (result ≡ body_effect IfElse start len x) × Sized result }
 {
-    if values::cardinal(x)? == 0 {
+    let i = values::cardinal(x)?;
+    if i == 0 {
         return Some(Effect::Gives(values::natural(1)));
     }
     Some(Effect::Acts(Next::Inline {

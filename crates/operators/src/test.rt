@@ -2,7 +2,7 @@
 ghost use Rattle.std.specs.Prelude.{◌≡◌, ◌≤◌};
 ghost use Rattle.numbers.specs.Arith.{order_of};
 ghost use Rattle.machine.specs.declared.Value.{Value};
-ghost use Rattle.machine.specs.declared.TestOp.TheVariants.{Eq, Gt, Ge, And, Or, Not};
+ghost use Rattle.machine.specs.declared.TestOp.TheVariants.{Eq, Gt, Ge, And, Or};
 ghost use Rattle.machine.specs.Ops.Test.{test_arity, is_less, is_equal, type_of, test_effect};
 ghost use Rattle.operands.specs.Sizes.{Sized};
 
@@ -88,14 +88,6 @@ fn or(x: Value, y: Value) -> Option<Effect>
     values::whether(a != 0 || b != 0)
 }
 
-// <b> NOT → <c>
-fn not(x: Value) -> Option<Effect>
-    ensures { ((y : Value) → result ≡ test_effect Not x y) × Sized result }
-{
-    let b = values::cardinal(x)?;
-    values::whether(b == 0)
-}
-
 // The number of a type (appendix B.1).
 fn type_number(x: Value) -> u32
     ensures { (result ≡ type_of x) × (result ≤ 4) }
@@ -117,7 +109,11 @@ pub fn effect(o: TestOp, x: Value, y: Value) -> Option<Effect>
         TestOp::Ge => ge(x, y),
         TestOp::And => and(x, y),
         TestOp::Or => or(x, y),
-        TestOp::Not => not(x),
+        // <b> NOT → <c>
+        TestOp::Not => {
+            let b = values::cardinal(x)?;
+            values::whether(b == 0)
+        }
         // <a> TYPE → <c>
         TestOp::TypeOf => Some(Effect::Gives(values::natural(type_number(x)))),
     }
