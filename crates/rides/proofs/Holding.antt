@@ -26,7 +26,6 @@ use Rattle.machine.specs.State.{State}
 use Rattle.machine.specs.Contexts.{above}
 use Rattle.machine.specs.Engine.{limited, provided, pops, inline, worked, affected, does}
 use Rattle.machine.specs.Step.{effect_at, execute}
-use Rattle.operands.specs.Operands.{card_of}
 use Rattle.operands.proofs.Reading.{no_card, is_card, when_so, when_not}
 use Rattle.state.specs.declared.Registers.{Registers}
 use Rattle.state.specs.declared.Tops.{Tops}
@@ -59,7 +58,7 @@ module _ {w : List ℕ} {r : Registers} (code : Code) (start len : ℕ) (t : Top
   pub if_few : {r' : Registers} → t.count < 1 → r' ≡ failed r → Tried (execute code (WithBody 239 start len)) w r w r'
   if_few {r'} h q = holder_few code 239 start len 1 If t g if_is if_one et h q
 
-  module _ (h : 1 ≤ t.count) (x : Value) (ex : x ≡ value_in t.first) (c : Option ℕ) (ec : card_of c ≡ cardinal? x) where
+  module _ (h : 1 ≤ t.count) (x : Value) (ex : x ≡ value_in t.first) (c : Option ℕ) (ec : c ≡ cardinal? x) where
     pub if_fails : {r' : Registers} → c ≡ None → r' ≡ failed r → Tried (execute code (WithBody 239 start len)) w r w r'
     unfolding body_effect answer
     if_fails {r'} e q =

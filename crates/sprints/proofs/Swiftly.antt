@@ -59,7 +59,6 @@ use Rattle.machine.specs.Contexts.{above, fault}
 use Rattle.machine.specs.Engine.{provided, pops, repeat, turn, worked, place, remove, tally, does, affected, push}
 use Rattle.machine.specs.Step.{effect_at, execute, executed, is_unmark0, literal_step, step_by, due_in, step, run, ended}
 use Rattle.machine.proofs.Inside.{token_inside}
-use Rattle.operands.specs.Operands.{card_of}
 use Rattle.operands.proofs.Reading.{is_card}
 use Rattle.literals.specs.declared.Due.{Due}
 use Rattle.literals.specs.Dues as dues
@@ -268,7 +267,7 @@ mark_pops : popped (Plain 186) ≡ 1
 unfolding popped arity_of stack_arity
 mark_pops = rw (← by_number.11)
 
-mark_places : (n : ℕ) (x y : Value) (c : Maybe ℕ) → card_of c ≡ cardinal? x → c ≡ Some n → n ≡ 0 → Some (Acts (Place 0)) ≡ effect_of (OnStack Mark) x y
+mark_places : (n : ℕ) (x y : Value) (c : Maybe ℕ) → c ≡ cardinal? x → c ≡ Some n → n ≡ 0 → Some (Acts (Place 0)) ≡ effect_of (OnStack Mark) x y
 unfolding effect_of stack_effect
 mark_places n x y c ec e z = is_card x (λ m. Some (Acts (Place m))) ec (rw z at e)
 
@@ -347,7 +346,7 @@ pop_flat {w} {r} code t g et h k =
     (rests code (nothing_done code (busy_lower 1 g refl) refl)))
 
 -- MARK under no value
-pub mark_flat : {top : ℕ} {w w' : List ℕ} {r q p : Registers} (code : Code) (n h : ℕ) (t : Tops) → Busy w r → Topmost (above (stack_of (slots w) r.height)) t → 1 ≤ t.count → (x : Value) → x ≡ value_in t.first → (c : Maybe ℕ) → card_of c ≡ cardinal? x → c ≡ Some n → n ≡ 0
+pub mark_flat : {top : ℕ} {w w' : List ℕ} {r q p : Registers} (code : Code) (n h : ℕ) (t : Tops) → Busy w r → Topmost (above (stack_of (slots w) r.height)) t → 1 ≤ t.count → (x : Value) → x ≡ value_in t.first → (c : Maybe ℕ) → c ≡ cardinal? x → c ≡ Some n → n ≡ 0
     → r.height ≤ top → q ≡ trying r (r.height - 1) r.depth r.used r.ok → Tried (place 0) w q w' p → (p.ok ≡ true → h ≡ p.height) × (p.ok ≡ false → h ≡ 130) → Flat top (execute code (Plain 186)) w r w' h
 mark_flat {p = p} code n h t g et there x ex c ec e z low eq d a =
     let y = value_in t.second in
