@@ -20,14 +20,14 @@ push_number-requires c = busy_lower 2 c.requires.0 refl
 
 pub returns-in-Is : goal.returns-in-Is
 returns-in-Is c =
-    λ code. plain_flat code _ 2 (op_of c.args.n) _ c.requires.0 refl (sums_two _ c.requires.1) c.tops-t.ensures _ _ _ c.if-t-lt2.false c.value_of.ensures c.value_of-2.ensures (gives_number _ _ _ _ _ _ _ c.in-Is.is c.in-Number.is c.in-Number-2.is c.two_numbers.ensures) refl (is_gives code _ _ refl c.push_number.ensures) _ refl c.height_of.ensures
+    λ code. plain_flat code _ 2 (op_of c.args.n) _ c.requires.0 refl (sums_two _ c.requires.1) c.tops-t.ensures _ _ _ c.if-t-lt2.false c.value_of.ensures c.value_of-2.ensures (gives_number _ _ _ _ _ _ _ c.in-Is.is c.in-Number.is c.in-Number-value_of.is c.two_numbers.ensures) refl (is_gives code _ _ refl c.push_number.ensures) _ refl c.height_of.ensures
 
 pub returns-in_default-two_numbers : goal.returns-in_default-two_numbers
 returns-in_default-two_numbers c =
-    λ code. flat_fails code _ (plain_effect code _ 2 (op_of c.args.n) _ c.requires.0 refl (sums_two _ c.requires.1) c.tops-t.ensures _ _ _ c.if-t-lt2.false c.value_of.ensures c.value_of-2.ensures (fails_number _ _ _ _ _ _ c.in_default-two_numbers.not-Is c.in-Number.is c.in-Number-2.is c.two_numbers.ensures))
+    λ code. flat_fails code _ (plain_effect code _ 2 (op_of c.args.n) _ c.requires.0 refl (sums_two _ c.requires.1) c.tops-t.ensures _ _ _ c.if-t-lt2.false c.value_of.ensures c.value_of-2.ensures (fails_number _ _ _ _ _ _ c.in_default-two_numbers.not-Is c.in-Number.is c.in-Number-value_of.is c.two_numbers.ensures))
 
-pub returns-in_default-2 : goal.returns-in_default-2
-returns-in_default-2 c = λ code. flat_undone _ (omega arith)
+pub returns-in_default-value_of : goal.returns-in_default-value_of
+returns-in_default-value_of c = λ code. flat_undone _ (omega arith)
 
 pub returns-in_default : goal.returns-in_default
 returns-in_default c = λ code. flat_undone _ (omega arith)
