@@ -20,9 +20,9 @@ pub returns : goal.returns
 returns c =
     do_made _ _ c.requires.0 c.tops-t.ensures c.if-t-lt1.false _ c.value_of.ensures _ _ _ _ c.in-Operator.is refl (call_made _ _ _ _ _ (busy_lower 1 c.requires.0 refl) c.callee_of.ensures _ _ c.in-Some.is c.size.ensures.0 c.call.ensures)
 
-pub returns-in_default-2 : goal.returns-in_default-2
-returns-in_default-2 c =
-    do_made _ _ c.requires.0 c.tops-t.ensures c.if-t-lt1.false _ c.value_of.ensures _ _ _ _ c.in-Operator.is refl (call_none _ _ _ _ _ (busy_lower 1 c.requires.0 refl) c.callee_of.ensures c.in_default-2.is c.failed-in_default-2.ensures)
+pub returns-in_default-callee_of : goal.returns-in_default-callee_of
+returns-in_default-callee_of c =
+    do_made _ _ c.requires.0 c.tops-t.ensures c.if-t-lt1.false _ c.value_of.ensures _ _ _ _ c.in-Operator.is refl (call_none _ _ _ _ _ (busy_lower 1 c.requires.0 refl) c.callee_of.ensures c.in_default-callee_of.is c.failed-in_default-callee_of.ensures)
 
 pub returns-in_default : goal.returns-in_default
 returns-in_default c =
