@@ -1,8 +1,6 @@
 -- `control::if_so` meets its contract. Assumes nothing.
-use mathlib.Core.Path.{ap, ◌∙◌}
+use mathlib.Core.Path.{◌∙◌}
 use borrow.Author.Tests.{eq-eqb, ne_eqb}
-use Rattle.std.specs.Prelude.{Some}
-use Rattle.machine.specs.declared.Effect.TheVariants.{Gives}
 use Rattle.machine.specs.Ops.Control.{body_effect}
 use Rattle.operands.proofs.Reading.{nothing, no_card, is_card, when_so, when_not}
 use Rattle.operators.proofs.control.if_so.Goals as goal

@@ -1,10 +1,9 @@
 -- `frame::effect` meets its contract. Assumes nothing.
 use mathlib.Core.Path.{◌∙◌}
-use borrow.Author.Tests.{lt-ltb, le-ltb}
-use Rattle.machine.specs.declared.FrameOp.{FrameOp}
+use borrow.Author.Tests.{lt-ltb}
 use Rattle.machine.specs.Ops.Frame.{frame_effect}
 use Rattle.machine.specs.Operand.{only_if}
-use Rattle.operands.proofs.Reading.{nothing, no_card, is_card, when_so, when_not}
+use Rattle.operands.proofs.Reading.{nothing, is_card, when_so}
 use Rattle.operators.proofs.Framing.{frame_none, frame_far}
 use Rattle.operators.proofs.frame.effect.Goals as goal
 

@@ -1,6 +1,5 @@
 -- `test::gt` meets its contract. Assumes nothing.
 use mathlib.Core.Path.{ap, ◌∙◌}
-use mathlib.Core.Bool.{Bool, not}
 use Rattle.machine.specs.Operand.{whether}
 use Rattle.machine.specs.Ops.Test.{compared, test_effect}
 use Rattle.operands.proofs.Reading.{nothing, no_figure, is_figure}

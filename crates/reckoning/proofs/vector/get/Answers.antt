@@ -1,6 +1,5 @@
 -- `vector::get` meets its contract. Assumes nothing.
 use mathlib.Core.Path.{◌∙◌}
-use native.Mathlib.Omega.{arith}
 use Rattle.machine.specs.Ops.Vector.{vector_effect}
 use Rattle.machine.specs.Operand.{only_if}
 use Rattle.operands.proofs.Reading.{nothing, no_vector, no_card, is_card, is_vector, when_so, when_not}
