@@ -1,10 +1,11 @@
 -- The engine's part of an operator, arm by arm. Assumes nothing.
+use Rattle.std.specs.Prelude.{Option, Some, None}
 use Prim.Native.Nat.{ℕ, ◌+◌, ◌<◌, ◌≤◌}
 use native.Mathlib.Omega.{arith}
 use mathlib.Core.Path.{◌≡◌, refl}
 use mathlib.Core.Bool.{Bool, true, false, cond}
 use mathlib.Core.List.{List, [], ◌∷◌}
-use lib.IntN.{pos}
+use mir.Val.{bool_byte}
 use lib.ListN.{length, take, drop}
 use Rattle.numbers.specs.declared.Number as num
 use Rattle.table.specs.declared.Slot.{Slot}
@@ -19,12 +20,13 @@ use Rattle.machine.specs.declared.Work.TheVariants.{Nothing, Fetch, Element, Bui
 use Rattle.machine.specs.declared.Next.{Next}
 use Rattle.machine.specs.declared.Next.TheVariants.{Works, Inline, Call, Store, Place, Remove, Tally}
 use Rattle.machine.specs.declared.Effect.{Effect}
-use Rattle.machine.specs.declared.Effect.TheVariants.{Fail, Gives, Gives2, Acts}
+use Rattle.machine.specs.declared.Effect.TheVariants.{Gives, Gives2, Acts}
 use Rattle.machine.specs.State.{Entry, val, mark}
 use Rattle.machine.specs.Literal.{Code, text_of}
 use Rattle.machine.specs.Operand.{natural}
 use Rattle.machine.specs.Contexts.{beneath}
 use Rattle.machine.specs.Engine.{provided, push, all_cardinals, elements_of, bit, build, spell, compose, repeat, turn, worked, store, place, remove, tally, inline, call, does, affected}
+use Rattle.operands.proofs.Reading.{NoIdentifier, NoVector}
 use Rattle.operands.specs.Sizes.{SizedWork, SizedNext, Sized}
 use Rattle.names.specs.Names.{both, data_at, same_text}
 use Rattle.state.specs.declared.Place as at
@@ -41,30 +43,20 @@ pub no_text : (p : at.Place) → p ≡ record { origin = 2; start = 0 } → (pre
 unfolding lowered
 no_text p e pre body = rw (e, empty (data_of (joined_at [] 0)) (none_past [] 0 (omega arith)))
 
-module _ (v : Value) where
-  pub number_place : (a : num.Number) (p : at.Place) → v ≡ Number a → p ≡ record { origin = 2; start = 0 } → (pre body : List ℕ) → lowered (data_at (both pre body) p.origin p.start) ≡ text_of (both pre body) v
-  unfolding text_of
-  number_place a p e f pre body = rw e (no_text p f pre body)
+pub name_place : (v : Value) (o s l : ℕ) → v ≡ Identifier o s l → (pre body : List ℕ) → lowered (data_at (both pre body) o s) ≡ text_of (both pre body) v
+unfolding text_of
+name_place v o s l e pre body = rw e
 
-  pub name_place : (o s l : ℕ) → v ≡ Identifier o s l → (pre body : List ℕ) → lowered (data_at (both pre body) o s) ≡ text_of (both pre body) v
-  unfolding text_of
-  name_place o s l e pre body = rw e
+pub no_place : (v : Value) (p : at.Place) → NoIdentifier v → p ≡ record { origin = 2; start = 0 } → (pre body : List ℕ) → lowered (data_at (both pre body) p.origin p.start) ≡ text_of (both pre body) v
+unfolding text_of
+no_place (Number a) p n e = no_text p e
+no_place (Identifier o s l) p n e = absurd (n o s l refl)
+no_place (Vector f l c) p n e = no_text p e
+no_place (Operator o s l f) p n e = no_text p e
 
-  pub vector_place : (f l n : ℕ) (p : at.Place) → v ≡ Vector f l n → p ≡ record { origin = 2; start = 0 } → (pre body : List ℕ) → lowered (data_at (both pre body) p.origin p.start) ≡ text_of (both pre body) v
-  unfolding text_of
-  vector_place f l n p e g pre body = rw e (no_text p g pre body)
-
-  pub operator_place : (o s l f : ℕ) (p : at.Place) → v ≡ Operator o s l f → p ≡ record { origin = 2; start = 0 } → (pre body : List ℕ) → lowered (data_at (both pre body) p.origin p.start) ≡ text_of (both pre body) v
-  unfolding text_of
-  operator_place o s l f p e g pre body = rw e (no_text p g pre body)
-
-pub one_is : (b : Bool) → b ≡ true → record { num = pos 1; den = 1 } ≡ cond b (natural 1) (natural 0)
-unfolding natural
-one_is b e = rw e
-
-pub zero_is : (b : Bool) → b ≡ false → record { num = pos 0; den = 1 } ≡ cond b (natural 1) (natural 0)
-unfolding natural
-zero_is b e = rw e
+pub bit_is : (b : Bool) {n : ℕ} {a : num.Number} → n ≡ bool_byte b → a ≡ natural n → a ≡ cond b (natural 1) (natural 0)
+bit_is true e h = rw (h, e)
+bit_is false e h = rw (h, e)
 
 pub matched : {w w' : List ℕ} {r r' : Registers} (pre body : List ℕ) (v u : Value) (p q : at.Place) (b : Bool) (a : num.Number)
     → ((x y : List ℕ) → lowered (data_at (both x y) p.origin p.start) ≡ text_of (both x y) v) → ((x y : List ℕ) → lowered (data_at (both x y) q.origin q.start) ≡ text_of (both x y) u)
@@ -73,6 +65,13 @@ unfolding worked bit
 matched pre body v u p q b a f g e h t = tried_as (rw (← (f pre body), ← (g pre body), ← e, ← h)) t
 
 -- ---- nothing, and a report
+
+no_elements : (v : Value) (cells : List Value) → NoVector v → elements_of v cells ≡ []
+unfolding elements_of
+no_elements (Number a) cells n = refl
+no_elements (Identifier o s l) cells n = refl
+no_elements (Vector f l c) cells n = absurd (n f l c refl)
+no_elements (Operator o s l f) cells n = refl
 
 pub nothing_done : {w : List ℕ} {r r' : Registers} (code : Code) → Busy w r → r' ≡ trying r r.height r.depth r.used true → Tried (worked code Nothing) w r w r'
 unfolding worked
@@ -93,17 +92,8 @@ module _ {w : List ℕ} {r r' : Registers} (v : Value) (g : Busy w r) where
   unfolding worked provided all_cardinals
   none_there code e q = rw q (tried_yes (omega arith) refl refl refl (rw e (fits_abs w r g.stack_fits g.depth_fits g.cells_fit)))
 
-  pub report_number : (a : num.Number) → v ≡ Number a → r' ≡ trying r r.height r.depth r.used true → (code : Code) → Tried (worked code (Report v)) w r w r'
-  unfolding elements_of
-  report_number a e q code = none_there code (rw e) q
-
-  pub report_name : (o s l : ℕ) → v ≡ Identifier o s l → r' ≡ trying r r.height r.depth r.used true → (code : Code) → Tried (worked code (Report v)) w r w r'
-  unfolding elements_of
-  report_name o s l e q code = none_there code (rw e) q
-
-  pub report_operator : (o s l f : ℕ) → v ≡ Operator o s l f → r' ≡ trying r r.height r.depth r.used true → (code : Code) → Tried (worked code (Report v)) w r w r'
-  unfolding elements_of
-  report_operator o s l f e q code = none_there code (rw e) q
+  pub report_none : NoVector v → r' ≡ trying r r.height r.depth r.used true → (code : Code) → Tried (worked code (Report v)) w r w r'
+  report_none n q code = none_there code (no_elements v _ n) q
 
 -- ---- what fits
 
@@ -116,7 +106,7 @@ sized_works x k h e = rw e at h
 pub sized_inline : (x : Next) (s l : ℕ) (o : Bool) → SizedNext x → x ≡ Inline s l o → s + l < 4294967296
 sized_inline x s l o h e = rw e at h
 
-pub sized_acts : (e : Effect) (x : Next) → Sized e → e ≡ Acts x → SizedNext x
+pub sized_acts : (e : Option Effect) (x : Next) → Sized e → e ≡ Some (Acts x) → SizedNext x
 sized_acts e x h i = rw i at h
 
 -- ---- the works
@@ -196,26 +186,26 @@ module _ {w w' : List ℕ} {r r' : Registers} (code : Code) (x : Next) where
 
 -- ---- an effect
 
-module _ {w : List ℕ} {r : Registers} (code : Code) (e : Effect) where
-  pub is_fail : {r' : Registers} → Busy w r → e ≡ Fail → r' ≡ failed r → Tried (affected code e) w r w r'
+module _ {w : List ℕ} {r : Registers} (code : Code) (e : Option Effect) where
+  pub is_fail : {r' : Registers} → Busy w r → e ≡ None → r' ≡ failed r → Tried (affected code e) w r w r'
   unfolding affected
   is_fail {r'} g i q = tried_no g (rw i) q
 
   module _ {w' : List ℕ} {r' : Registers} where
-    pub is_gives : (a : num.Number) → e ≡ Gives a → Tried (push (Number a)) w r w' r' → Tried (affected code e) w r w' r'
+    pub is_gives : (a : num.Number) → e ≡ Some (Gives a) → Tried (push (Number a)) w r w' r' → Tried (affected code e) w r w' r'
     unfolding affected
     is_gives a i t = rw i t
 
-    pub is_gives2 : (a b : num.Number) → e ≡ Gives2 a b → Tried (table.push_two (Number a) (Number b)) w r w' r' → Tried (affected code e) w r w' r'
+    pub is_gives2 : (a b : num.Number) → e ≡ Some (Gives2 a b) → Tried (table.push_two (Number a) (Number b)) w r w' r' → Tried (affected code e) w r w' r'
     unfolding affected table.push_two
     is_gives2 a b i t = rw i t
 
-    pub is_acts : (x : Next) → e ≡ Acts x → Tried (does code x) w r w' r' → Tried (affected code e) w r w' r'
+    pub is_acts : (x : Next) → e ≡ Some (Acts x) → Tried (does code x) w r w' r' → Tried (affected code e) w r w' r'
     unfolding affected
     is_acts x i t = rw i t
 
     -- the same effect, told by its parts
-    pub is_told : (f : Effect) → e ≡ f → Tried (affected code f) w r w' r' → Tried (affected code e) w r w' r'
+    pub is_told : (f : Option Effect) → e ≡ f → Tried (affected code f) w r w' r' → Tried (affected code e) w r w' r'
     is_told f i t = rw i t
 
 -- ---- marks stand within the stack

@@ -1,5 +1,6 @@
 -- An operator executed, in the words of the table: the values that it reads, and its effect done. In order: values; without a body; with one.
 -- Assumes nothing.
+use Rattle.std.specs.Prelude.{Option, None}
 use Prim.Native.Nat.{ℕ, ◌-◌, ◌≤◌, ◌<◌}
 use native.Mathlib.Nat.{mod-lt}
 use native.Mathlib.Omega.{arith}
@@ -20,7 +21,6 @@ use Rattle.machine.specs.declared.BodyOp.{BodyOp}
 use Rattle.machine.specs.declared.Literal.{Literal}
 use Rattle.machine.specs.declared.Literal.TheVariants.{Plain, WithBody}
 use Rattle.machine.specs.declared.Effect.{Effect}
-use Rattle.machine.specs.declared.Effect.TheVariants.{Fail}
 use Rattle.machine.specs.Literal.{Code}
 use Rattle.machine.specs.Operators.{op_of, body_op_of, arity_of, effect_of, popped, performed}
 use Rattle.machine.specs.Ops.Control.{body_arity, body_effect}
@@ -55,7 +55,7 @@ module _ {w : List ℕ} {r : Registers} (code : Code) (x : Literal) (a : ℕ) (t
       let c = et.count in
       tried_no g (rw (← ea, lt-leb a (length (above (stack_of (slots w) r.height))) (fewer (above (stack_of (slots w) r.height)) a two (omega arith)))) q
 
-  exec_done : {w' : List ℕ} {q r' : Registers} (e : Effect) → a ≤ t.count → e ≡ effect_at x (abs w r) → q ≡ trying r (r.height - a) r.depth r.used r.ok → Tried (affected code e) w q w' r' → Tried (execute code x) w r w' r'
+  exec_done : {w' : List ℕ} {q r' : Registers} (e : Option Effect) → a ≤ t.count → e ≡ effect_at x (abs w r) → q ≡ trying r (r.height - a) r.depth r.used r.ok → Tried (affected code e) w q w' r' → Tried (execute code x) w r w' r'
   unfolding execute provided
   exec_done {w'} {q} {r'} e h i eq d =
       let c = et.count in
@@ -78,7 +78,7 @@ module _ {w : List ℕ} {r : Registers} (code : Code) (n a : ℕ) (o : Op) (t : 
   pub plain_few : {r' : Registers} → t.count < a → r' ≡ failed r → Tried (execute code (Plain n)) w r w r'
   plain_few {r'} h q = exec_few code (Plain n) a t g ea.1 pops_plain et h q
 
-  module _ (x y : Value) (e : Effect) (h : a ≤ t.count) (ex : x ≡ value_in t.first) (ey : y ≡ value_in t.second) (ee : e ≡ effect_of o x y) where
+  module _ (x y : Value) (e : Option Effect) (h : a ≤ t.count) (ex : x ≡ value_in t.first) (ey : y ≡ value_in t.second) (ee : e ≡ effect_of o x y) where
     pub plain_effect : e ≡ effect_at (Plain n) (abs w r)
     unfolding effect_at performed
     plain_effect = ee ∙ (rw (← eo, ← et.first, ← et.second, ex, ey))
@@ -87,11 +87,11 @@ module _ {w : List ℕ} {r : Registers} (code : Code) (n a : ℕ) (o : Op) (t : 
       pub plain_done : Tried (execute code (Plain n)) w r w' r'
       plain_done = exec_done code (Plain n) a t g ea.1 pops_plain et e h plain_effect eq d
 
-  pub plain_fails : {r' : Registers} (x y : Value) → a ≤ t.count → x ≡ value_in t.first → y ≡ value_in t.second → Fail ≡ effect_of o x y → r' ≡ failed r → Tried (execute code (Plain n)) w r w r'
+  pub plain_fails : {r' : Registers} (x y : Value) → a ≤ t.count → x ≡ value_in t.first → y ≡ value_in t.second → None ≡ effect_of o x y → r' ≡ failed r → Tried (execute code (Plain n)) w r w r'
   unfolding answer
   plain_fails {r'} x y h ex ey ee q =
       let p = trying r (r.height - a) r.depth r.used r.ok in
-      let u = exec_done code (Plain n) a t g ea.1 pops_plain et Fail h (plain_effect x y Fail h ex ey ee) refl (is_fail code Fail (busy_lower a g refl) refl refl) in
+      let u = exec_done code (Plain n) a t g ea.1 pops_plain et None h (plain_effect x y None h ex ey ee) refl (is_fail code None (busy_lower a g refl) refl refl) in
       tried_no {f = execute code (Plain n)} g (sym u.does) q
 
 -- ---- an operator with its body
@@ -104,7 +104,7 @@ module _ {w : List ℕ} {r : Registers} (code : Code) (n start len a : ℕ) (o :
   pub holder_few : {r' : Registers} → t.count < a → r' ≡ failed r → Tried (execute code (WithBody n start len)) w r w r'
   holder_few {r'} h q = exec_few code (WithBody n start len) a t g ea.1 pops_holder et h q
 
-  pub holder_done : {w' : List ℕ} {q r' : Registers} (x : Value) (e : Effect) → a ≤ t.count → x ≡ value_in t.first → e ≡ body_effect o start len x → q ≡ trying r (r.height - a) r.depth r.used r.ok
+  pub holder_done : {w' : List ℕ} {q r' : Registers} (x : Value) (e : Option Effect) → a ≤ t.count → x ≡ value_in t.first → e ≡ body_effect o start len x → q ≡ trying r (r.height - a) r.depth r.used r.ok
       → Tried (affected code e) w q w' r' → Tried (execute code (WithBody n start len)) w r w' r'
   unfolding effect_at performed
   holder_done {w'} {q} {r'} x e h ex ee eq d = exec_done code (WithBody n start len) a t g ea.1 pops_holder et e h (ee ∙ (rw (← eo, ← et.first, ex))) eq d

@@ -1,12 +1,11 @@
 // What an operator asks for, done on the state in the lent table.
 #![tactic(auto)]
 
-ghost use Rattle.std.specs.Prelude.{◌≡◌, ℕ, ◌+◌, ◌<◌, cond, true, false, List};
+ghost use Rattle.std.specs.Prelude.{◌≡◌, ℕ, ◌+◌, ◌<◌, true, List};
 ghost use Rattle.tokens.specs.Text.{lowered};
 ghost use Rattle.machine.specs.declared.Work.TheVariants.{Match, Report};
 ghost use Rattle.machine.specs.State.{running};
 ghost use Rattle.machine.specs.Literal.{Code, text_of};
-ghost use Rattle.machine.specs.Operand.{natural};
 ghost use Rattle.machine.specs.Engine.{spell, inline, call, worked, does, affected};
 ghost use Rattle.operands.specs.Sizes.{SizedWork, SizedNext, Sized};
 ghost use Rattle.state.specs.Layout.{Busy, Tried};
@@ -52,25 +51,14 @@ pub fn inline<'a>(
     contexts::bodies::inline(w, r, table::words::word(at), start + len, owes)
 }
 
-// The body of an operator as it is entered, from `at` to `end`. `there`: it stands in the bytes of its origin, and the frame that it keeps in
-// the cells.
+// The body of an operator as it is entered, from `at` to `end`.
 #[derive(Clone, Copy)]
 pub struct Callee {
-    pub there: bool,
     pub at: u32,
     pub end: u32,
 }
 
-fn no_callee() -> Callee
-    ensures { result ≡ record { there = false; at = 0; end = 0 } }
-{
-    Callee {
-        there: false,
-        at: 0,
-        end: 0,
-    }
-}
-
+// `None` where the body does not stand in the bytes of its origin, or the frame that it keeps not in the cells.
 pub fn callee_of<'a>(
     used: usize,
     pre: &'a [u8],
@@ -79,24 +67,23 @@ pub fn callee_of<'a>(
     start: u32,
     len: u32,
     first: u32,
-) -> Callee
+) -> Option<Callee>
     requires { Short pre.now body.now }
     ensures { Enters (both pre.now body.now) used origin start len first result }
 {
     if table::words::size(first) + 50 > used {
-        return no_callee();
+        return None;
     }
     let end = table::words::size(start) + table::words::size(len);
     let b = origins::bytes_of(pre, body, origin);
     if end > b.len() {
-        return no_callee();
+        return None;
     }
     let at = nesting::bodies::past_comments(b, table::words::size(start));
-    Callee {
-        there: true,
+    Some(Callee {
         at: table::words::word(at),
         end: table::words::word(end),
-    }
+    })
 }
 
 // The body of an operator entered with the frame that it keeps.
@@ -113,11 +100,10 @@ fn call<'a>(
     requires { Busy w.old r × Short pre.now body.now }
     ensures { Tried (call (both pre.now body.now) origin start len first) w.old r w.new result }
 {
-    let k = callee_of(r.used, pre, body, origin, start, len, first);
-    if k.there {
-        return contexts::bodies::call(w, r, origin, k.at, k.end, table::words::size(first));
-    }
-    state::stack::failed(r)
+    let Some(k) = callee_of(r.used, pre, body, origin, start, len, first) else {
+        return state::stack::failed(r);
+    };
+    contexts::bodies::call(w, r, origin, k.at, k.end, table::words::size(first))
 }
 
 // Where a value's text stands: of an identifier its token, of other values nowhere.
@@ -125,42 +111,12 @@ fn place_of(v: machine::Value) -> Place
     ensures { (pre body : List ℕ) → lowered (data_at (both pre body) result.origin result.start) ≡ text_of (both pre body) v }
 {
     match v {
-        machine::Value::Number(_) => nowhere(),
-        machine::Value::Identifier {
-            origin,
-            start,
-            len: _,
-        } => Place { origin, start },
-        machine::Value::Vector {
-            first: _,
-            lower: _,
-            count: _,
-        } => nowhere(),
-        machine::Value::Operator {
-            origin: _,
-            start: _,
-            len: _,
-            first: _,
-        } => nowhere(),
+        machine::Value::Identifier { origin, start, .. } => Place { origin, start },
+        _ => Place {
+            origin: 2,
+            start: 0,
+        },
     }
-}
-
-fn nowhere() -> Place
-    ensures { result ≡ record { origin = 2; start = 0 } }
-{
-    Place {
-        origin: 2,
-        start: 0,
-    }
-}
-
-fn figure(b: bool) -> numbers::Number
-    ensures { result ≡ cond b (natural 1) (natural 0) }
-{
-    if b {
-        return numbers::Number { num: 1, den: 1 };
-    }
-    numbers::Number { num: 0, den: 1 }
 }
 
 // EQ of two identifiers: 1 or 0 is pushed.
@@ -178,7 +134,8 @@ fn matches<'a>(
     let x = place_of(v);
     let y = place_of(u);
     let same = names::same_text(pre, body, x.origin, x.start, y.origin, y.start);
-    state::stack::push_number(w, r, figure(same))
+    let bit = operands::values::natural(u32::from(same));
+    state::stack::push_number(w, r, bit)
 }
 
 // Nothing more is done.
@@ -195,36 +152,19 @@ fn report(w: &[u8], r: Registers, v: machine::Value) -> Registers
     requires { Busy w.now r }
     ensures { (code : Code) → Tried (worked code (Report v)) w.now r w.now result }
 {
-    match v {
-        machine::Value::Vector {
-            first,
-            lower: _,
-            count,
-        } => {
-            let all = store::cells::all_cardinals(
-                w,
-                r.used,
-                table::words::size(first),
-                table::words::size(count),
-            );
-            if all {
-                return done(r);
-            }
-            state::stack::failed(r)
-        }
-        machine::Value::Number(_) => done(r),
-        machine::Value::Identifier {
-            origin: _,
-            start: _,
-            len: _,
-        } => done(r),
-        machine::Value::Operator {
-            origin: _,
-            start: _,
-            len: _,
-            first: _,
-        } => done(r),
+    let machine::Value::Vector { first, count, .. } = v else {
+        return done(r);
+    };
+    let all = store::cells::all_cardinals(
+        w,
+        r.used,
+        table::words::size(first),
+        table::words::size(count),
+    );
+    if all {
+        return done(r);
     }
+    state::stack::failed(r)
 }
 
 // What the engine does with the values above the topmost mark.
@@ -274,14 +214,20 @@ fn act<'a>(w: &mut [u8], r: Registers, pre: &'a [u8], body: &'a [u8], x: Next) -
 }
 
 // An effect, on the state from which the operator's values have been popped.
-pub fn affect<'a>(w: &mut [u8], r: Registers, pre: &'a [u8], body: &'a [u8], e: Effect) -> Registers
+pub fn affect<'a>(
+    w: &mut [u8],
+    r: Registers,
+    pre: &'a [u8],
+    body: &'a [u8],
+    e: Option<Effect>,
+) -> Registers
     requires { Busy w.old r × Short pre.now body.now × Sized e }
     ensures { Tried (affected (both pre.now body.now) e) w.old r w.new result }
 {
     match e {
-        Effect::Fail => state::stack::failed(r),
-        Effect::Gives(a) => state::stack::push_number(w, r, a),
-        Effect::Gives2(a, b) => state::stack::push_two(w, r, a, b),
-        Effect::Acts(x) => act(w, r, pre, body, x),
+        None => state::stack::failed(r),
+        Some(Effect::Gives(a)) => state::stack::push_number(w, r, a),
+        Some(Effect::Gives2(a, b)) => state::stack::push_two(w, r, a, b),
+        Some(Effect::Acts(x)) => act(w, r, pre, body, x),
     }
 }

@@ -15,26 +15,24 @@ pub fn affect_vector<'a>(
     r: Registers,
     pre: &'a [u8],
     body: &'a [u8],
-    e: Effect,
+    e: Option<Effect>,
 ) -> Registers
     requires { Busy w.old r × Short pre.now body.now × Sized e }
     ensures { Tried (affected (both pre.now body.now) e) w.old r w.new result }
 {
     match e {
-        Effect::Gives2(a, b) => state::stack::push_two(w, r, a, b),
-        Effect::Acts(x) => match x {
-            Next::Works(k) => match k {
-                Work::Element { cell } => store::cells::element(w, r, table::words::size(cell)),
-                Work::Build { lower, count } => store::cells::build(
-                    w,
-                    r,
-                    lower,
-                    table::words::size(count),
-                ),
-                _ => effects::affect(w, r, pre, body, e),
-            },
-            _ => effects::affect(w, r, pre, body, e),
-        },
+        Some(Effect::Gives2(a, b)) => state::stack::push_two(w, r, a, b),
+        Some(Effect::Acts(Next::Works(Work::Element { cell }))) => store::cells::element(
+            w,
+            r,
+            table::words::size(cell),
+        ),
+        Some(Effect::Acts(Next::Works(Work::Build { lower, count }))) => store::cells::build(
+            w,
+            r,
+            lower,
+            table::words::size(count),
+        ),
         _ => effects::affect(w, r, pre, body, e),
     }
 }
@@ -45,13 +43,13 @@ pub fn affect_number<'a>(
     r: Registers,
     pre: &'a [u8],
     body: &'a [u8],
-    e: Effect,
+    e: Option<Effect>,
 ) -> Registers
     requires { Busy w.old r × Short pre.now body.now × Sized e }
     ensures { Tried (affected (both pre.now body.now) e) w.old r w.new result }
 {
     match e {
-        Effect::Gives(a) => state::stack::push_number(w, r, a),
+        Some(Effect::Gives(a)) => state::stack::push_number(w, r, a),
         _ => effects::affect(w, r, pre, body, e),
     }
 }
@@ -62,19 +60,13 @@ pub fn affect_stack<'a>(
     r: Registers,
     pre: &'a [u8],
     body: &'a [u8],
-    e: Effect,
+    e: Option<Effect>,
 ) -> Registers
     requires { Busy w.old r × Short pre.now body.now × Sized e }
     ensures { Tried (affected (both pre.now body.now) e) w.old r w.new result }
 {
     match e {
-        Effect::Acts(x) => match x {
-            Next::Works(k) => match k {
-                Work::Nothing => effects::done(r),
-                _ => effects::affect(w, r, pre, body, e),
-            },
-            _ => effects::affect(w, r, pre, body, e),
-        },
+        Some(Effect::Acts(Next::Works(Work::Nothing))) => effects::done(r),
         _ => effects::affect(w, r, pre, body, e),
     }
 }
@@ -85,20 +77,16 @@ pub fn affect_body<'a>(
     r: Registers,
     pre: &'a [u8],
     body: &'a [u8],
-    e: Effect,
+    e: Option<Effect>,
 ) -> Registers
     requires { Busy w.old r × Short pre.now body.now × Sized e }
     ensures { Tried (affected (both pre.now body.now) e) w.old r w.new result }
 {
     match e {
-        Effect::Acts(x) => match x {
-            Next::Inline { start, len, owes } => effects::inline(w, r, pre, body, start, len, owes),
-            Next::Works(k) => match k {
-                Work::Nothing => effects::done(r),
-                _ => effects::affect(w, r, pre, body, e),
-            },
-            _ => effects::affect(w, r, pre, body, e),
-        },
+        Some(Effect::Acts(Next::Inline { start, len, owes })) => effects::inline(
+            w, r, pre, body, start, len, owes,
+        ),
+        Some(Effect::Acts(Next::Works(Work::Nothing))) => effects::done(r),
         _ => effects::affect(w, r, pre, body, e),
     }
 }

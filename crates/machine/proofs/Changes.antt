@@ -1,5 +1,6 @@
 -- What one executed literal can change, whatever the operator: other values above the topmost mark and other cells; the running
 -- frame; a mark; a context entered. And every result is within the limits. Assumes nothing.
+use Rattle.std.specs.Prelude.{Option as Maybe, Some, None}
 use Prim.Native.Nat.{ℕ, ◌+◌, ◌-◌, ◌≤◌}
 use native.Mathlib.Omega.{arith}
 use mathlib.Core.Path.{◌≡◌, refl}
@@ -16,7 +17,7 @@ use Rattle.machine.specs.declared.Work.TheVariants.{Nothing, Fetch, Element, Bui
 use Rattle.machine.specs.declared.Next.{Next}
 use Rattle.machine.specs.declared.Next.TheVariants.{Works, Inline, Call, Store, Place, Remove, Tally}
 use Rattle.machine.specs.declared.Effect.{Effect}
-use Rattle.machine.specs.declared.Effect.TheVariants.{Fail, Gives, Gives2, Acts}
+use Rattle.machine.specs.declared.Effect.TheVariants.{Gives, Gives2, Acts}
 use Rattle.machine.specs.Limits.{frame_size, most_entries, most_contexts, most_cells}
 use Rattle.machine.specs.State.{Entry, val, mark, Context, State, running}
 use Rattle.machine.specs.Literal.{Code}
@@ -121,9 +122,9 @@ module _ (code : Code) (s : State) where
   does_changed (Remove n) = removed_changed n _ _ refl
   does_changed Tally = tallied_changed _ _ _
 
-  pub affected_changed : (e : Effect) → OnSome (Changed s) (affected code e s)
+  pub affected_changed : (e : Maybe Effect) → OnSome (Changed s) (affected code e s)
   unfolding affected push over
-  affected_changed Fail = tt
-  affected_changed (Gives a) = push_changed _
-  affected_changed (Gives2 a b) = limited_changed _ (pushes (Number b ∷ Number a ∷ []))
-  affected_changed (Acts x) = does_changed x
+  affected_changed None = tt
+  affected_changed (Some (Gives a)) = push_changed _
+  affected_changed (Some (Gives2 a b)) = limited_changed _ (pushes (Number b ∷ Number a ∷ []))
+  affected_changed (Some (Acts x)) = does_changed x

@@ -1,5 +1,6 @@
 -- The bodies that a literal's effect composes or enters are its own, and the one that it calls is the topmost value's: so a claim B of
 -- bodies (origin, start, length) that these have is had by every body of the effect. Assumes nothing.
+use Rattle.std.specs.Prelude.{Option, Some, None}
 use Prim.Native.Nat.{ℕ}
 use mathlib.Core.Path.{◌≡◌, subst}
 use mathlib.Core.Bool.{Bool}
@@ -10,7 +11,7 @@ use Rattle.machine.specs.declared.Literal.TheVariants.{WithBody}
 use Rattle.machine.specs.declared.Work.TheVariants.{Compose}
 use Rattle.machine.specs.declared.Next.TheVariants.{Works, Inline, Call}
 use Rattle.machine.specs.declared.Effect.{Effect}
-use Rattle.machine.specs.declared.Effect.TheVariants.{Fail, Acts}
+use Rattle.machine.specs.declared.Effect.TheVariants.{Acts}
 use Rattle.machine.specs.Operand.{as_operator}
 use Rattle.machine.specs.Ops.Call.{called}
 use Rattle.machine.specs.Operators.{performed}
@@ -19,13 +20,13 @@ use Rattle.machine.proofs.Throughout.{Pointing}
 use Rattle.machine.proofs.OperatorEffects.{Harmless, OfBody, performed_has}
 
 -- in a running body of the origin o
-pub record Bodies (B : ℕ → ℕ → ℕ → Type 0) (o : ℕ) (e : Effect) : Type 0 where
-  pub composes : (start len : ℕ) → e ≡ Acts (Works (Compose start len)) → B o start len
-  pub enters : (start len : ℕ) (owes : Bool) → e ≡ Acts (Inline start len owes) → B o start len
-  pub calls : (origin start len first : ℕ) → e ≡ Acts (Call origin start len first) → B origin start len
+pub record Bodies (B : ℕ → ℕ → ℕ → Type 0) (o : ℕ) (e : Option Effect) : Type 0 where
+  pub composes : (start len : ℕ) → e ≡ Some (Acts (Works (Compose start len))) → B o start len
+  pub enters : (start len : ℕ) (owes : Bool) → e ≡ Some (Acts (Inline start len owes)) → B o start len
+  pub calls : (origin start len first : ℕ) → e ≡ Some (Acts (Call origin start len first)) → B origin start len
 
 module _ (B : ℕ → ℕ → ℕ → Type 0) (o : ℕ) where
-  harmless : (e : Effect) → Harmless e → Bodies B o e
+  harmless : (e : Option Effect) → Harmless e → Bodies B o e
   harmless e h = record {
     composes = λ start len z. absurd (subst Harmless z h);
     enters = λ start len owes z. absurd (subst Harmless z h);
@@ -49,9 +50,9 @@ module _ (B : ℕ → ℕ → ℕ → Type 0) (o : ℕ) where
 
   called_on : (room : ℕ) (v : Value) → Pointing room (λ origin start len first. B origin start len) v → Bodies B o (called v)
   unfolding called as_operator
-  called_on room (Number a) h = harmless Fail tt
-  called_on room (Identifier origin start len) h = harmless Fail tt
-  called_on room (Vector first lower count) h = harmless Fail tt
+  called_on room (Number a) h = harmless None tt
+  called_on room (Identifier origin start len) h = harmless None tt
+  called_on room (Vector first lower count) h = harmless None tt
   called_on room (Operator origin start len first) h = record {
     composes = λ s l z. never (cc);
     enters = λ s l owes z. never (cc);

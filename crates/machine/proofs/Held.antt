@@ -1,5 +1,6 @@
 -- An invariant of states: a claim of every operator value wherever it stands, and one of what is left of every body in progress. An effect
 -- whose bodies are claimed keeps it. In order: the claims; the engine's work; frames, marks and bodies; an effect. Assumes nothing.
+use Rattle.std.specs.Prelude.{Option, Some, None}
 use Prim.Native.Nat.{ℕ, ◌+◌, ◌-◌, ◌≤◌}
 use native.Mathlib.Omega.{arith}
 use mathlib.Core.Path.{◌≡◌, refl}
@@ -13,7 +14,7 @@ use Rattle.machine.specs.declared.Work.TheVariants.{Nothing, Fetch, Element, Bui
 use Rattle.machine.specs.declared.Next.{Next}
 use Rattle.machine.specs.declared.Next.TheVariants.{Works, Inline, Call, Store, Place, Remove, Tally}
 use Rattle.machine.specs.declared.Effect.{Effect}
-use Rattle.machine.specs.declared.Effect.TheVariants.{Fail, Gives, Gives2, Acts}
+use Rattle.machine.specs.declared.Effect.TheVariants.{Gives, Gives2, Acts}
 use Rattle.machine.specs.Limits.{frame_size}
 use Rattle.machine.specs.State.{Entry, val, mark, Context, State, zero, running}
 use Rattle.machine.specs.Skeleton.{solid}
@@ -113,7 +114,7 @@ module _ (code : Code) (K : Claim code) where
         omega (arith, length-append s.cells (reverse vs), length-reverse_aux vs [], length-take n (values s), leb-true n (length (values s)) p)
 
     module _ (framed : length (running s.contexts).frame ≡ frame_size) where
-      worked_held : (w : Work) → Bodies K.OfBody (running s.contexts).origin (Acts (Works w)) → OnSome (Held K) (worked code w s)
+      worked_held : (w : Work) → Bodies K.OfBody (running s.contexts).origin (Some (Acts (Works w))) → OnSome (Held K) (worked code w s)
       unfolding worked build spell compose repeat turn bit letters_at
       worked_held Nothing b = limited_on _ _ (λ _. h)
       worked_held (Fetch j) b = push_held _ (all_at Ok (running s.contexts).frame j zero frame_held tt)
@@ -186,7 +187,7 @@ module _ (code : Code) (K : Claim code) where
     -- ---- an effect
 
     module _ (framed : length (running s.contexts).frame ≡ frame_size) where
-      does_held : (x : Next) → Bodies K.OfBody (running s.contexts).origin (Acts x) → OnSome (Held K) (does code x s)
+      does_held : (x : Next) → Bodies K.OfBody (running s.contexts).origin (Some (Acts x)) → OnSome (Held K) (does code x s)
       unfolding does inline call remove tally
       does_held (Works w) b = worked_held framed w b
       does_held (Inline start len owes) b = enter_held _ start len owes _ (b.enters start len owes refl) frame_held
@@ -197,9 +198,9 @@ module _ (code : Code) (K : Claim code) where
       does_held (Remove n) b = removed_held _ n (beneath s.stack) (beneath_on Ok s.stack h.values_are.entries_are)
       does_held Tally b = tallied_held _ _ _
 
-      pub affected_held : (e : Effect) → Bodies K.OfBody (running s.contexts).origin e → OnSome (Held K) (affected code e s)
+      pub affected_held : (e : Option Effect) → Bodies K.OfBody (running s.contexts).origin e → OnSome (Held K) (affected code e s)
       unfolding affected push
-      affected_held Fail b = tt
-      affected_held (Gives a) b = push_held _ tt
-      affected_held (Gives2 a b) c = limited_on _ _ (λ _. on_stack _ (tt, (tt, h.values_are.entries_are)))
-      affected_held (Acts x) b = does_held x b
+      affected_held None b = tt
+      affected_held (Some (Gives a)) b = push_held _ tt
+      affected_held (Some (Gives2 a b)) c = limited_on _ _ (λ _. on_stack _ (tt, (tt, h.values_are.entries_are)))
+      affected_held (Some (Acts x)) b = does_held x b

@@ -1,11 +1,10 @@
 -- What every operator does, said once: a claim P of effects that every harmless effect has, that the call of the topmost value x has, and
 -- that composing and entering a literal's own body have, is had by the literal's effect. In order: harmless effects; operands; operators;
 -- a literal. Assumes nothing.
-use Rattle.std.specs.Prelude.{Ok, Err}
+use Rattle.std.specs.Prelude.{Ok, Err, Option, Some, None}
 use Prim.Native.Nat.{ℕ}
 use mathlib.Core.Path.{◌≡◌, refl}
 use mathlib.Core.Bool.{Bool, true, false}
-use mathlib.Core.Option.{Option, none, some}
 use lib.Dec.{eqb}
 use Rattle.numbers.specs.declared.Number as num
 use Rattle.numbers.specs.Fraction.{Answer}
@@ -36,7 +35,7 @@ use Rattle.machine.specs.declared.Work.TheVariants as work
 use Rattle.machine.specs.declared.Next.{Next}
 use Rattle.machine.specs.declared.Next.TheVariants.{Works, Inline, Call, Store, Place, Remove, Tally}
 use Rattle.machine.specs.declared.Effect.{Effect}
-use Rattle.machine.specs.declared.Effect.TheVariants.{Fail, Gives, Gives2, Acts}
+use Rattle.machine.specs.declared.Effect.TheVariants.{Gives, Gives2, Acts}
 use Rattle.machine.specs.Operand.{cardinal?, if_some, as_cardinal, as_number, as_vector, whether, only_if, answered}
 use Rattle.machine.specs.Ops.Vector.{vector_effect}
 use Rattle.machine.specs.Ops.Frame.{frame_effect}
@@ -71,45 +70,45 @@ Stays (Place count) = Unit
 Stays (Remove count) = Unit
 Stays Tally = Unit
 
-abbrev pub Harmless : Effect → Type 0
-Harmless Fail = Unit
-Harmless (Gives a) = Unit
-Harmless (Gives2 a b) = Unit
-Harmless (Acts x) = Stays x
+abbrev pub Harmless : Option Effect → Type 0
+Harmless None = Unit
+Harmless (Some (Gives a)) = Unit
+Harmless (Some (Gives2 a b)) = Unit
+Harmless (Some (Acts x)) = Stays x
 
 -- P of what may be done with a literal's own body
-abbrev pub OfBody : (Effect → Type 0) → ℕ → ℕ → Type 0
-OfBody P start len = P (Acts (Works (work.Compose start len))) × ((owes : Bool) → P (Acts (Inline start len owes)))
+abbrev pub OfBody : (Option Effect → Type 0) → ℕ → ℕ → Type 0
+OfBody P start len = P (Some (Acts (Works (work.Compose start len)))) × ((owes : Bool) → P (Some (Acts (Inline start len owes))))
 
-module _ (P : Effect → Type 0) (fine : (e : Effect) → Harmless e → P e) where
+module _ (P : Option Effect → Type 0) (fine : (e : Option Effect) → Harmless e → P e) where
   -- ---- operands
 
-  some_has : (o : Option ℕ) (f : ℕ → Effect) → ((k : ℕ) → P (f k)) → P (if_some o f)
+  some_has : (o : Option ℕ) (f : ℕ → Option Effect) → ((k : ℕ) → P (f k)) → P (if_some o f)
   unfolding if_some
-  some_has none f h = fine _ tt
-  some_has (some k) f h = h k
+  some_has None f h = fine _ tt
+  some_has (Some k) f h = h k
 
-  cardinal_has : (v : Value) (f : ℕ → Effect) → ((k : ℕ) → P (f k)) → P (as_cardinal v f)
+  cardinal_has : (v : Value) (f : ℕ → Option Effect) → ((k : ℕ) → P (f k)) → P (as_cardinal v f)
   unfolding as_cardinal
   cardinal_has v f h = some_has (cardinal? v) f h
 
-  number_has : (v : Value) (f : num.Number → Effect) → ((a : num.Number) → P (f a)) → P (as_number v f)
+  number_has : (v : Value) (f : num.Number → Option Effect) → ((a : num.Number) → P (f a)) → P (as_number v f)
   unfolding as_number
   number_has (Number a) f h = h a
   number_has (Identifier origin start len) f h = fine _ tt
   number_has (Vector first lower count) f h = fine _ tt
   number_has (Operator origin start len first) f h = fine _ tt
 
-  vector_has : (v : Value) (f : ℕ → ℕ → ℕ → Effect) → ((a b c : ℕ) → P (f a b c)) → P (as_vector v f)
+  vector_has : (v : Value) (f : ℕ → ℕ → ℕ → Option Effect) → ((a b c : ℕ) → P (f a b c)) → P (as_vector v f)
   unfolding as_vector
   vector_has (Number a) f h = fine _ tt
   vector_has (Identifier origin start len) f h = fine _ tt
   vector_has (Vector first lower count) f h = h first lower count
   vector_has (Operator origin start len first) f h = fine _ tt
 
-  only_has : (b : Bool) (e : Effect) → P e → P (only_if b e)
+  only_has : (b : Bool) (e : Option Effect) → P e → P (only_if b e)
   unfolding only_if
-  only_has b e h = either P b e Fail (λ _. h) (λ _. fine _ tt)
+  only_has b e h = either P b e None (λ _. h) (λ _. fine _ tt)
 
   answered_has : (a : Answer) → P (answered a)
   unfolding answered

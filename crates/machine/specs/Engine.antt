@@ -1,7 +1,7 @@
 -- The engine's part of each operator, from State to a State or to a failure. A literal that fails changes nothing but by recovery (R14):
 -- every limit is tested in one place, on the result. In order: the limits; the values above the topmost mark; cells; frames; marks;
 -- bodies entered. Assumes nothing.
-use Rattle.std.specs.Prelude.{ℕ, ◌+◌, ◌-◌, Bool, true, false, cond, ◌&&◌, List, [], ◌∷◌, ◌++◌, reverse, eqb, leb, length, take, drop, set, get_or}
+use Rattle.std.specs.Prelude.{ℕ, ◌+◌, ◌-◌, Bool, true, false, cond, ◌&&◌, List, [], ◌∷◌, ◌++◌, reverse, eqb, leb, length, take, drop, set, get_or, is_some, Option as Maybe, Some, None}
 use Rattle.std.proofs.Math.Option.{Option, none, some}
 use Rattle.machine.specs.declared.Value.{Value}
 use Rattle.machine.specs.declared.Value.TheVariants.{Number, Identifier, Vector, Operator}
@@ -10,7 +10,7 @@ use Rattle.machine.specs.declared.Work.TheVariants.{Nothing, Fetch, Element, Bui
 use Rattle.machine.specs.declared.Next.{Next}
 use Rattle.machine.specs.declared.Next.TheVariants.{Works, Inline, Call, Store, Place, Remove, Tally}
 use Rattle.machine.specs.declared.Effect.{Effect}
-use Rattle.machine.specs.declared.Effect.TheVariants.{Fail, Gives, Gives2, Acts}
+use Rattle.machine.specs.declared.Effect.TheVariants.{Gives, Gives2, Acts}
 use Rattle.machine.specs.Limits.{frame_size, most_entries, most_contexts, most_cells}
 use Rattle.machine.specs.State.{Entry, val, mark, Context, State, zero, running}
 use Rattle.machine.specs.Skeleton.{solid}
@@ -67,7 +67,7 @@ push v s = limited (with_stack (val v ∷ s.stack) s)
 
 -- the values of a message are all Cardinals (R17)
 unfoldable pub is_cardinal : Value → Bool
-is_cardinal v = elim (cardinal? v) [ none ↦ false | some n ↦ true ]
+is_cardinal v = is_some (cardinal? v)
 
 unfoldable pub all_cardinals : List Value → Bool
 all_cardinals [] = true
@@ -208,8 +208,8 @@ does code (Place n) s = place n s
 does code (Remove n) s = remove n s
 does code Tally s = tally s
 
-unfoldable pub affected : Code → Effect → State → Option State
-affected code Fail s = none
-affected code (Gives a) s = push (Number a) s
-affected code (Gives2 a b) s = push (Number b) (with_stack (val (Number a) ∷ s.stack) s)
-affected code (Acts x) s = does code x s
+unfoldable pub affected : Code → Maybe Effect → State → Option State
+affected code None s = none
+affected code (Some (Gives a)) s = push (Number a) s
+affected code (Some (Gives2 a b)) s = push (Number b) (with_stack (val (Number a) ∷ s.stack) s)
+affected code (Some (Acts x)) s = does code x s

@@ -1,6 +1,6 @@
 -- The operators by number (000, appendix B.3), and a literal's effect. The tables are data; a number that stands in none is a master error
 -- when executed (01, The machine). Assumes nothing.
-use Rattle.std.specs.Prelude.{ℕ, cond, List, [], ◌∷◌, eqb}
+use Rattle.std.specs.Prelude.{ℕ, cond, List, [], ◌∷◌, eqb, Option, Some, None}
 use Rattle.machine.specs.declared.Value.{Value}
 use Rattle.machine.specs.declared.Literal.{Literal}
 use Rattle.machine.specs.declared.Literal.TheVariants.{Figure, Name, Text, Plain, WithBody}
@@ -17,7 +17,7 @@ use Rattle.machine.specs.declared.BodyOp.TheVariants.{MakeSimpleCo, DoSaveSimple
 use Rattle.machine.specs.declared.Work.TheVariants.{Spell, Utter}
 use Rattle.machine.specs.declared.Next.TheVariants.{Works}
 use Rattle.machine.specs.declared.Effect.{Effect}
-use Rattle.machine.specs.declared.Effect.TheVariants.{Fail, Gives, Acts}
+use Rattle.machine.specs.declared.Effect.TheVariants.{Gives, Acts}
 use Rattle.machine.specs.Ops.Vector.{vector_arity, vector_effect}
 use Rattle.machine.specs.Ops.Frame.{frame_arity, frame_effect}
 use Rattle.machine.specs.Ops.Call.{call_effect}
@@ -69,14 +69,14 @@ arity_of (Tests o) = test_arity o
 arity_of (Reckons o) = arith_arity o
 arity_of Unknown = 0
 
-unfoldable pub effect_of : Op → Value → Value → Effect
+unfoldable pub effect_of : Op → Value → Value → Option Effect
 effect_of (OnVectors o) x y = vector_effect o x y
 effect_of (OnFrame o) x y = frame_effect o x
 effect_of (Calls o) x y = call_effect o x
 effect_of (OnStack o) x y = stack_effect o x y
 effect_of (Tests o) x y = test_effect o x y
 effect_of (Reckons o) x y = arith_effect o x y
-effect_of Unknown x y = Fail
+effect_of Unknown x y = None
 
 unfoldable pub popped : Literal → ℕ
 popped (Figure a) = 0
@@ -85,9 +85,9 @@ popped (Text start) = 0
 popped (Plain n) = arity_of (op_of n)
 popped (WithBody n start len) = body_arity (body_op_of n)
 
-unfoldable pub performed : Literal → Value → Value → Effect
-performed (Figure a) x y = Gives a
-performed (Name start len) x y = Acts (Works (Utter start len))
-performed (Text start) x y = Acts (Works (Spell start))
+unfoldable pub performed : Literal → Value → Value → Option Effect
+performed (Figure a) x y = Some (Gives a)
+performed (Name start len) x y = Some (Acts (Works (Utter start len)))
+performed (Text start) x y = Some (Acts (Works (Spell start)))
 performed (Plain n) x y = effect_of (op_of n) x y
 performed (WithBody n start len) x y = body_effect (body_op_of n) start len x

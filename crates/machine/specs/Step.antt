@@ -1,7 +1,7 @@
 -- One step, and a body under an allowance (01: "a step is one literal executed or skipped; a body operator with its body is one literal";
 -- "F (1): ended normally. R (2): ended by recovery at the engine's mark, stack empty. B (3): a step was due and none was left").
 -- Assumes nothing.
-use Rattle.std.specs.Prelude.{ℕ, zero, suc, Bool, true, false, cond, not, ◌&&◌, List, [], ◌∷◌, eqb, length, get_or}
+use Rattle.std.specs.Prelude.{ℕ, zero, suc, Bool, true, false, cond, not, ◌&&◌, List, [], ◌∷◌, eqb, length, get_or, Option as Maybe}
 use Rattle.std.proofs.Math.Option.{Option, none, some}
 use Rattle.machine.specs.declared.Value.{Value}
 use Rattle.machine.specs.declared.Literal.{Literal}
@@ -17,7 +17,7 @@ use Rattle.machine.specs.Engine.{provided, values, has, pops, affected}
 
 -- ---- a literal executed
 
-unfoldable pub effect_at : Literal → State → Effect
+unfoldable pub effect_at : Literal → State → Maybe Effect
 effect_at x s = performed x (get_or (values s) 0 state.zero) (get_or (values s) 1 state.zero)
 
 -- the values that it pops stand above the topmost mark

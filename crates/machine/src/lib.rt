@@ -185,10 +185,9 @@ pub enum Next {
     Tally,
 }
 
-// What an operator makes of the values that it pops: a failure, one number or two (the second on top), or a part for the engine.
+// What an operator makes of the values that it pops: one number or two (the second on top), or a part for the engine. `None` is the master error.
 #[derive(Clone, Copy)]
 pub enum Effect {
-    Fail,
     Gives(numbers::Number),
     Gives2(numbers::Number, numbers::Number),
     Acts(Next),

@@ -1,6 +1,6 @@
 -- What fits: of the values that are popped, so that GET's place in the cells is a word and SHAPE's numbers are inside the limits; of an
 -- effect, so that the engine can do its part. Assumes nothing.
-use Rattle.std.specs.Prelude.{◌+◌, ◌<◌}
+use Rattle.std.specs.Prelude.{◌+◌, ◌<◌, Option, Some, None}
 use Rattle.machine.specs.declared.Value.{Value}
 use Rattle.machine.specs.declared.Value.TheVariants.{Number, Identifier, Vector, Operator}
 use Rattle.machine.specs.declared.Work.{Work}
@@ -8,7 +8,7 @@ use Rattle.machine.specs.declared.Work.TheVariants.{Nothing, Fetch, Element, Bui
 use Rattle.machine.specs.declared.Next.{Next}
 use Rattle.machine.specs.declared.Next.TheVariants.{Works, Inline, Call, Store, Place, Remove, Tally}
 use Rattle.machine.specs.declared.Effect.{Effect}
-use Rattle.machine.specs.declared.Effect.TheVariants.{Fail, Gives, Gives2, Acts}
+use Rattle.machine.specs.declared.Effect.TheVariants.{Gives, Gives2, Acts}
 
 abbrev pub Small : Value → Type 0
 Small (Number a) = Unit
@@ -40,8 +40,8 @@ SizedNext (Place count) = Unit
 SizedNext (Remove count) = Unit
 SizedNext Tally = Unit
 
-abbrev pub Sized : Effect → Type 0
-Sized Fail = Unit
-Sized (Gives a) = Unit
-Sized (Gives2 a b) = Unit
-Sized (Acts x) = SizedNext x
+abbrev pub Sized : Option Effect → Type 0
+Sized None = Unit
+Sized (Some (Gives a)) = Unit
+Sized (Some (Gives2 a b)) = Unit
+Sized (Some (Acts x)) = SizedNext x

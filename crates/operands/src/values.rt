@@ -2,41 +2,40 @@
 ghost use Rattle.std.specs.Prelude.{◌≡◌, ◌<◌};
 ghost use Rattle.machine.specs.Operand.{cardinal_in, cardinal?, natural, whether, answered};
 ghost use Rattle.operands.specs.Sizes.{Sized};
-ghost use Rattle.operands.specs.Operands.{card_of, Within, figure_of};
+ghost use Rattle.operands.specs.Operands.{Within, figure_of};
 
-use crate::{Card, Figure};
 use machine::{Effect, Value};
 use numbers::{NoNumber, Number};
 
 // The bits of a negative numerator are a number above the largest Cardinal.
-fn cardinal_in(a: Number) -> Card
-    ensures { (card_of result ≡ cardinal_in a.num a.den) × Within result }
+fn cardinal_in(a: Number) -> Option<u32>
+    ensures { (result ≡ cardinal_in a.num a.den) × Within result }
 {
     if a.den != 1 {
-        return Card::No;
+        return None;
     }
     let n = numbers::words::to_word(a.num);
     if n > 16777215 {
-        return Card::No;
+        return None;
     }
-    Card::Is(n)
+    Some(n)
 }
 
-pub fn cardinal(v: Value) -> Card
-    ensures { (card_of result ≡ cardinal? v) × Within result }
+pub fn cardinal(v: Value) -> Option<u32>
+    ensures { (result ≡ cardinal? v) × Within result }
 {
     match v {
         Value::Number(a) => cardinal_in(a),
-        _ => Card::No,
+        _ => None,
     }
 }
 
-pub fn figure(v: Value) -> Figure
+pub fn figure(v: Value) -> Option<Number>
     ensures { result ≡ figure_of v }
 {
     match v {
-        Value::Number(a) => Figure::Of(a),
-        _ => Figure::Other,
+        Value::Number(a) => Some(a),
+        _ => None,
     }
 }
 
@@ -50,21 +49,17 @@ pub fn natural(n: u32) -> Number
     }
 }
 
-pub fn whether(b: bool) -> Effect
+pub fn whether(b: bool) -> Option<Effect>
     ensures { (result ≡ whether b) × Sized result }
 {
-    if b {
-        Effect::Gives(natural(1))
-    } else {
-        Effect::Gives(natural(0))
-    }
+    Some(Effect::Gives(natural(u32::from(b))))
 }
 
-pub fn answered(a: Result<Number, NoNumber>) -> Effect
+pub fn answered(a: Result<Number, NoNumber>) -> Option<Effect>
     ensures { (result ≡ answered a) × Sized result }
 {
     match a {
-        Ok(n) => Effect::Gives(n),
-        Err(_) => Effect::Fail,
+        Ok(n) => Some(Effect::Gives(n)),
+        Err(_) => None,
     }
 }

@@ -1,4 +1,5 @@
 -- Tests on what an operator read: ERROR's codes, AND and OR, EQ. Assumes nothing.
+use Rattle.std.specs.Prelude.{Some}
 use mathlib.Core.Path.{◌≡◌, refl}
 use mathlib.Core.Bool.{true, false, not, ◌&&◌, ◌||◌}
 use mathlib.Core.List.{[], ◌∷◌}
@@ -35,7 +36,7 @@ harsh_code n h = rw (ne_eqb n 10 (λ e. h (inl e)), ne_eqb n 50 (λ e. h (inr (i
 -- ---- AND, OR
 
 module _ (a b : ℕ) where
-  pub and_off : a ≡ 0 → whether false ≡ whether (not (eqb a 0) && not (eqb b 0))
+  pub and_off : a ≡ 0 → whether (not (eqb a 0)) ≡ whether (not (eqb a 0) && not (eqb b 0))
   and_off e = rw (eq-eqb a 0 e)
 
   pub and_on : (a ≡ 0 → ⊥) → whether (not (eqb b 0)) ≡ whether (not (eqb a 0) && not (eqb b 0))
@@ -44,7 +45,7 @@ module _ (a b : ℕ) where
   pub or_off : a ≡ 0 → whether (not (eqb b 0)) ≡ whether (not (eqb a 0) || not (eqb b 0))
   or_off e = rw (eq-eqb a 0 e)
 
-  pub or_on : (a ≡ 0 → ⊥) → whether true ≡ whether (not (eqb a 0) || not (eqb b 0))
+  pub or_on : (a ≡ 0 → ⊥) → whether (not (eqb a 0)) ≡ whether (not (eqb a 0) || not (eqb b 0))
   or_on n = rw (ne_eqb a 0 n)
 
 -- ---- EQ
@@ -60,7 +61,7 @@ eq_number a (Identifier origin start len) e h = rw e
 eq_number a (Vector first lower count) e h = rw e
 eq_number a (Operator origin start len first) e h = rw e
 
-pub eq_identifiers : {x y : Value} (o s l p t m : ℕ) → x ≡ Identifier o s l → y ≡ Identifier p t m → Acts (Works (Match x y)) ≡ equals x y
+pub eq_identifiers : {x y : Value} (o s l p t m : ℕ) → x ≡ Identifier o s l → y ≡ Identifier p t m → Some (Acts (Works (Match x y))) ≡ equals x y
 unfolding equals
 eq_identifiers o s l p t m e h = rw (e, h)
 

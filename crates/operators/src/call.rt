@@ -6,31 +6,30 @@ ghost use Rattle.operands.specs.Sizes.{Sized};
 use machine::{CallOp, Effect, Next, Value};
 
 // <o> DO →
-fn called(x: Value) -> Effect
+fn called(x: Value) -> Option<Effect>
     ensures { (result ≡ called x) × Sized result }
 {
-    match x {
-        Value::Operator {
-            origin,
-            start,
-            len,
-            first,
-        } => Effect::Acts(Next::Call {
-            origin,
-            start,
-            len,
-            first,
-        }),
-        _ => Effect::Fail,
-    }
+    let Value::Operator {
+        origin,
+        start,
+        len,
+        first,
+    } = x
+    else {
+        return None;
+    };
+    Some(Effect::Acts(Next::Call {
+        origin,
+        start,
+        len,
+        first,
+    }))
 }
 
-pub fn effect(o: CallOp, x: Value) -> Effect
+pub fn effect(o: CallOp, x: Value) -> Option<Effect>
     ensures { (result ≡ call_effect o x) × Sized result }
 {
     match o {
-        CallOp::Do => called(x),
-        CallOp::DoSave => called(x),
-        CallOp::DoSaveAll => called(x),
+        CallOp::Do | CallOp::DoSave | CallOp::DoSaveAll => called(x),
     }
 }

@@ -31,7 +31,7 @@ pub fn arity_of(o: Op) -> usize
 }
 
 // The effect of an operator: x is the topmost value, y the next. By family only: a new operator of an old family changes nothing here.
-pub fn effect_of(o: Op, x: Value, y: Value) -> Effect
+pub fn effect_of(o: Op, x: Value, y: Value) -> Option<Effect>
     requires { Small x × Small y }
     ensures { (result ≡ effect_of o x y) × Sized result }
 {
@@ -42,6 +42,6 @@ pub fn effect_of(o: Op, x: Value, y: Value) -> Effect
         Op::OnStack(k) => stack::effect(k, x, y),
         Op::Tests(k) => test::effect(k, x, y),
         Op::Reckons(k) => arith::effect(k, x, y),
-        Op::Unknown => Effect::Fail,
+        Op::Unknown => None,
     }
 }

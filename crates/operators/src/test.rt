@@ -2,26 +2,21 @@
 ghost use Rattle.std.specs.Prelude.{◌≡◌, ◌≤◌};
 ghost use Rattle.numbers.specs.Arith.{order_of};
 ghost use Rattle.machine.specs.declared.Value.{Value};
-ghost use Rattle.machine.specs.declared.TestOp.TheVariants.{Eq, Gt, Ge, And, Or, Not};
+ghost use Rattle.machine.specs.declared.TestOp.TheVariants.{Eq, Gt, Ge, And, Or};
 ghost use Rattle.machine.specs.Ops.Test.{test_arity, is_less, is_equal, type_of, test_effect};
 ghost use Rattle.operands.specs.Sizes.{Sized};
 
 use machine::{Effect, Next, TestOp, Value, Work};
 use numbers::Number;
+use operands::values;
 use std::cmp::Ordering;
-use operands::{Card, Figure, values};
 
 pub fn arity(o: TestOp) -> usize
     ensures { (result ≡ test_arity o) × (result ≤ 2) }
 {
     match o {
-        TestOp::Eq => 2,
-        TestOp::Gt => 2,
-        TestOp::Ge => 2,
-        TestOp::And => 2,
-        TestOp::Or => 2,
-        TestOp::Not => 1,
-        TestOp::TypeOf => 1,
+        TestOp::Eq | TestOp::Gt | TestOp::Ge | TestOp::And | TestOp::Or => 2,
+        TestOp::Not | TestOp::TypeOf => 1,
     }
 }
 
@@ -46,100 +41,52 @@ fn is_equal(a: Number, b: Number) -> bool
 }
 
 // <a> <b> EQ → <c>: two numbers by their worth, two identifiers by their text, which is the engine's part.
-fn eq(x: Value, y: Value) -> Effect
+fn eq(x: Value, y: Value) -> Option<Effect>
     ensures { (result ≡ test_effect Eq x y) × Sized result }
 {
-    match x {
-        Value::Number(a) => match y {
-            Value::Number(b) => values::whether(is_equal(a, b)),
-            _ => values::whether(false),
-        },
-        Value::Identifier {
-            origin: _,
-            start: _,
-            len: _,
-        } => match y {
-            Value::Identifier {
-                origin: _,
-                start: _,
-                len: _,
-            } => Effect::Acts(Next::Works(Work::Match(x, y))),
-            _ => values::whether(false),
-        },
+    match (x, y) {
+        (Value::Number(a), Value::Number(b)) => values::whether(is_equal(a, b)),
+        (Value::Identifier { .. }, Value::Identifier { .. }) => {
+            Some(Effect::Acts(Next::Works(Work::Match(x, y))))
+        }
         _ => values::whether(false),
     }
 }
 
 // <a> <b> GT → <c>: whether a > b
-fn gt(x: Value, y: Value) -> Effect
+fn gt(x: Value, y: Value) -> Option<Effect>
     ensures { (result ≡ test_effect Gt x y) × Sized result }
 {
-    match values::figure(y) {
-        Figure::Other => Effect::Fail,
-        Figure::Of(a) => match values::figure(x) {
-            Figure::Other => Effect::Fail,
-            Figure::Of(b) => values::whether(is_less(b, a)),
-        },
-    }
+    let a = values::figure(y)?;
+    let b = values::figure(x)?;
+    values::whether(is_less(b, a))
 }
 
 // <a> <b> GE → <c>: whether a ≥ b
-fn ge(x: Value, y: Value) -> Effect
+fn ge(x: Value, y: Value) -> Option<Effect>
     ensures { (result ≡ test_effect Ge x y) × Sized result }
 {
-    match values::figure(y) {
-        Figure::Other => Effect::Fail,
-        Figure::Of(a) => match values::figure(x) {
-            Figure::Other => Effect::Fail,
-            Figure::Of(b) => values::whether(!is_less(a, b)),
-        },
-    }
+    let a = values::figure(y)?;
+    let b = values::figure(x)?;
+    values::whether(!is_less(a, b))
 }
 
 // <a> <b> AND → <c>
-fn and(x: Value, y: Value) -> Effect
+fn and(x: Value, y: Value) -> Option<Effect>
     ensures { (result ≡ test_effect And x y) × Sized result }
 {
-    match values::cardinal(y) {
-        Card::No => Effect::Fail,
-        Card::Is(a) => match values::cardinal(x) {
-            Card::No => Effect::Fail,
-            Card::Is(b) => {
-                if a == 0 {
-                    return values::whether(false);
-                }
-                values::whether(b != 0)
-            }
-        },
-    }
+    let a = values::cardinal(y)?;
+    let b = values::cardinal(x)?;
+    values::whether(a != 0 && b != 0)
 }
 
 // <a> <b> OR → <c>
-fn or(x: Value, y: Value) -> Effect
+fn or(x: Value, y: Value) -> Option<Effect>
     ensures { (result ≡ test_effect Or x y) × Sized result }
 {
-    match values::cardinal(y) {
-        Card::No => Effect::Fail,
-        Card::Is(a) => match values::cardinal(x) {
-            Card::No => Effect::Fail,
-            Card::Is(b) => {
-                if a == 0 {
-                    return values::whether(b != 0);
-                }
-                values::whether(true)
-            }
-        },
-    }
-}
-
-// <b> NOT → <c>
-fn not(x: Value) -> Effect
-    ensures { ((y : Value) → result ≡ test_effect Not x y) × Sized result }
-{
-    match values::cardinal(x) {
-        Card::No => Effect::Fail,
-        Card::Is(b) => values::whether(b == 0),
-    }
+    let a = values::cardinal(y)?;
+    let b = values::cardinal(x)?;
+    values::whether(a != 0 || b != 0)
 }
 
 // The number of a type (appendix B.1).
@@ -148,26 +95,13 @@ fn type_number(x: Value) -> u32
 {
     match x {
         Value::Number(_) => 1,
-        Value::Identifier {
-            origin: _,
-            start: _,
-            len: _,
-        } => 2,
-        Value::Vector {
-            first: _,
-            lower: _,
-            count: _,
-        } => 3,
-        Value::Operator {
-            origin: _,
-            start: _,
-            len: _,
-            first: _,
-        } => 4,
+        Value::Identifier { .. } => 2,
+        Value::Vector { .. } => 3,
+        Value::Operator { .. } => 4,
     }
 }
 
-pub fn effect(o: TestOp, x: Value, y: Value) -> Effect
+pub fn effect(o: TestOp, x: Value, y: Value) -> Option<Effect>
     ensures { (result ≡ test_effect o x y) × Sized result }
 {
     match o {
@@ -176,8 +110,12 @@ pub fn effect(o: TestOp, x: Value, y: Value) -> Effect
         TestOp::Ge => ge(x, y),
         TestOp::And => and(x, y),
         TestOp::Or => or(x, y),
-        TestOp::Not => not(x),
+        // <b> NOT → <c>
+        TestOp::Not => {
+            let b = values::cardinal(x)?;
+            values::whether(b == 0)
+        }
         // <a> TYPE → <c>
-        TestOp::TypeOf => Effect::Gives(values::natural(type_number(x))),
+        TestOp::TypeOf => Some(Effect::Gives(values::natural(type_number(x)))),
     }
 }

@@ -1,4 +1,5 @@
 -- Cells only grow: a run ends with the cells that it began with, and others after them. Assumes nothing.
+use Rattle.std.specs.Prelude.{Option, Some, None}
 use Prim.Native.Nat.{ℕ}
 use mathlib.Core.Path.{◌≡◌, ap, sym, ◌∙◌}
 use mathlib.Core.Bool.{false}
@@ -9,7 +10,7 @@ use Rattle.machine.specs.declared.Work.TheVariants.{Nothing, Fetch, Element, Bui
 use Rattle.machine.specs.declared.Next.{Next}
 use Rattle.machine.specs.declared.Next.TheVariants.{Works, Inline, Call, Store, Place, Remove, Tally}
 use Rattle.machine.specs.declared.Effect.{Effect}
-use Rattle.machine.specs.declared.Effect.TheVariants.{Fail, Gives, Gives2, Acts}
+use Rattle.machine.specs.declared.Effect.TheVariants.{Gives, Gives2, Acts}
 use Rattle.machine.specs.State.{Entry, val, mark, State}
 use Rattle.machine.specs.Literal.{Code}
 use Rattle.machine.specs.Contexts.{fault, settle, skipped_in, skipped}
@@ -70,12 +71,12 @@ module _ (code : Code) (a : List Value) where
     does_grown (Remove n) = removed_grown _ n _ _
     does_grown Tally = tallied_grown _ _ _
 
-    affected_grown : (e : Effect) → OnSome Grown (affected code e s)
+    affected_grown : (e : Option Effect) → OnSome Grown (affected code e s)
     unfolding affected push
-    affected_grown Fail = tt
-    affected_grown (Gives x) = push_grown _
-    affected_grown (Gives2 x y) = limited_grown _ h
-    affected_grown (Acts x) = does_grown x
+    affected_grown None = tt
+    affected_grown (Some (Gives x)) = push_grown _
+    affected_grown (Some (Gives2 x y)) = limited_grown _ h
+    affected_grown (Some (Acts x)) = does_grown x
 
   step_grown : (s : State) → ended s.contexts ≡ false → Grown s → Grown (step code s)
   unfolding begun_in skipped skipped_in fault settle execute pops

@@ -1,4 +1,5 @@
 -- Two codes with the same bytes at every origin run alike. So the preamble may run beside a page without bytes. Assumes nothing.
+use Rattle.std.specs.Prelude.{Option, Some, None}
 use Prim.Native.Nat.{ℕ, zero, suc}
 use mathlib.Core.Path.{◌≡◌, refl, ap, ◌∙◌}
 use mathlib.Core.Bool.{Bool, true, false}
@@ -11,7 +12,7 @@ use Rattle.machine.specs.declared.Next.{Next}
 use Rattle.machine.specs.declared.Next.TheVariants.{Works, Inline, Call, Store, Place, Remove, Tally}
 use Rattle.machine.specs.declared.Literal.{Literal}
 use Rattle.machine.specs.declared.Effect.{Effect}
-use Rattle.machine.specs.declared.Effect.TheVariants.{Fail, Gives, Gives2, Acts}
+use Rattle.machine.specs.declared.Effect.TheVariants.{Gives, Gives2, Acts}
 use Rattle.machine.specs.State.{State, running}
 use Rattle.machine.specs.Literal.{Code, bytes_of, text_of}
 use Rattle.machine.specs.Engine.{spell, worked, context_of, inline, kept, call, does, affected}
@@ -50,12 +51,12 @@ module _ (c d : Code) (same : (o : ℕ) → bytes_of c o ≡ bytes_of d o) where
   does_same (Remove n) s = refl
   does_same Tally s = refl
 
-  affected_same : (e : Effect) (s : State) → affected c e s ≡ affected d e s
+  affected_same : (e : Option Effect) (s : State) → affected c e s ≡ affected d e s
   unfolding affected
-  affected_same Fail s = refl
-  affected_same (Gives a) s = refl
-  affected_same (Gives2 a b) s = refl
-  affected_same (Acts x) s = does_same x s
+  affected_same None s = refl
+  affected_same (Some (Gives a)) s = refl
+  affected_same (Some (Gives2 a b)) s = refl
+  affected_same (Some (Acts x)) s = does_same x s
 
   execute_same : (x : Literal) (s : State) → execute c x s ≡ execute d x s
   unfolding execute

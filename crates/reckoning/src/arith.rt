@@ -6,24 +6,20 @@ ghost use Rattle.reckoning.specs.Reckoning.{reckoned};
 
 use machine::{ArithOp, Effect, Value};
 use numbers::{NoNumber, Number};
-use operands::{Figure, values};
+use operands::values;
 
 pub fn arity(o: ArithOp) -> usize
     ensures { (result ≡ arith_arity o) × (result ≤ 2) }
 {
     match o {
-        ArithOp::Add => 2,
-        ArithOp::Sub => 2,
-        ArithOp::Neg => 1,
-        ArithOp::Abs => 1,
-        ArithOp::Floor => 1,
-        ArithOp::Ceiling => 1,
-        ArithOp::Trunc => 1,
-        ArithOp::Round => 1,
-        ArithOp::Mul => 2,
-        ArithOp::Div => 2,
-        ArithOp::Mod => 2,
-        ArithOp::Rem => 2,
+        ArithOp::Neg
+        | ArithOp::Abs
+        | ArithOp::Floor
+        | ArithOp::Ceiling
+        | ArithOp::Trunc
+        | ArithOp::Round => 1,
+        ArithOp::Add | ArithOp::Sub | ArithOp::Mul | ArithOp::Div | ArithOp::Mod | ArithOp::Rem =>
+            2,
     }
 }
 
@@ -48,19 +44,13 @@ fn reckon(o: ArithOp, a: Number, b: Number) -> Result<Number, NoNumber>
 }
 
 // An operator on one number leaves y unread.
-pub fn effect(o: ArithOp, x: Value, y: Value) -> Effect
+pub fn effect(o: ArithOp, x: Value, y: Value) -> Option<Effect>
     ensures { (result ≡ arith_effect o x y) × Sized result }
 {
-    match values::figure(x) {
-        Figure::Other => Effect::Fail,
-        Figure::Of(b) => {
-            if arity(o) == 1 {
-                return values::answered(reckon(o, b, b));
-            }
-            match values::figure(y) {
-                Figure::Other => Effect::Fail,
-                Figure::Of(a) => values::answered(reckon(o, a, b)),
-            }
-        }
+    let b = values::figure(x)?;
+    if arity(o) == 1 {
+        return values::answered(reckon(o, b, b));
     }
+    let a = values::figure(y)?;
+    values::answered(reckon(o, a, b))
 }

@@ -1,4 +1,5 @@
 -- DO in the words of the table, and a step with a literal. Assumes nothing.
+use Rattle.std.specs.Prelude.{Some, None}
 use Prim.Native.Nat.{ℕ, zero, suc, ◌+◌, ◌-◌, ◌≤◌, ◌<◌}
 use native.Mathlib.Omega.{arith}
 use mathlib.Core.Path.{◌≡◌, refl, ap, sym, ◌∙◌}
@@ -10,7 +11,7 @@ use Rattle.machine.specs.declared.Value.{Value}
 use Rattle.machine.specs.declared.Value.TheVariants.{Operator}
 use Rattle.machine.specs.declared.Literal.{Literal}
 use Rattle.machine.specs.declared.Literal.TheVariants.{Plain}
-use Rattle.machine.specs.declared.Effect.TheVariants.{Fail, Acts}
+use Rattle.machine.specs.declared.Effect.TheVariants.{Acts}
 use Rattle.machine.specs.declared.Next.TheVariants.{Call}
 use Rattle.machine.specs.declared.Op.TheVariants.{Calls}
 use Rattle.machine.specs.declared.CallOp.TheVariants.{Do}
@@ -39,11 +40,11 @@ do_one : (1 ≡ arity_of (Calls Do)) × (1 ≤ 2)
 unfolding arity_of
 do_one = (refl, omega arith)
 
-calls_nothing : (x y : Value) → NoOperator x → Fail ≡ effect_of (Calls Do) x y
+calls_nothing : (x y : Value) → NoOperator x → None ≡ effect_of (Calls Do) x y
 unfolding effect_of call_effect called
 calls_nothing x y h = no_operator x _ h
 
-do_call : (o s l f : ℕ) (x y : Value) → x ≡ Operator o s l f → Acts (Call o s l f) ≡ effect_of (Calls Do) x y
+do_call : (o s l f : ℕ) (x y : Value) → x ≡ Operator o s l f → Some (Acts (Call o s l f)) ≡ effect_of (Calls Do) x y
 unfolding effect_of call_effect called as_operator
 do_call o s l f x y e = rw e
 
@@ -54,7 +55,7 @@ module _ {w : List ℕ} {r : Registers} (code : Code) (t : Tops) (g : Busy w r) 
   module _ (h : 1 ≤ t.count) (x : Value) (ex : x ≡ value_in t.first) where
     pub do_made : {w' : List ℕ} {q r' : Registers} (o s l f : ℕ) → x ≡ Operator o s l f → q ≡ trying r (r.height - 1) r.depth r.used r.ok → Tried (call code o s l f) w q w' r' → Tried (execute code (Plain 231)) w r w' r'
     do_made {w'} {q} {r'} o s l f e eq d =
-        plain_done code 231 1 (Calls Do) t g by_number.6 do_one et x (value_in t.second) (Acts (Call o s l f)) h ex refl (do_call o s l f x (value_in t.second) e) eq (is_acts code (Acts (Call o s l f)) (Call o s l f) refl (by_call code (Call o s l f) o s l f refl d))
+        plain_done code 231 1 (Calls Do) t g by_number.6 do_one et x (value_in t.second) (Some (Acts (Call o s l f))) h ex refl (do_call o s l f x (value_in t.second) e) eq (is_acts code (Some (Acts (Call o s l f))) (Call o s l f) refl (by_call code (Call o s l f) o s l f refl d))
 
     pub do_fails : {r' : Registers} → NoOperator x → r' ≡ failed r → Tried (execute code (Plain 231)) w r w r'
     do_fails {r'} bad q =

@@ -1,4 +1,5 @@
 -- IF in the words of the table, CORRECT and IFCOPY. Assumes nothing.
+use Rattle.std.specs.Prelude.{Option, Some, None}
 use Prim.Native.Nat.{ℕ, ◌+◌, ◌-◌, ◌≤◌, ◌<◌}
 use native.Mathlib.Omega.{arith}
 use mathlib.Core.Path.{◌≡◌, refl, sym, ◌∙◌}
@@ -13,7 +14,7 @@ use Rattle.machine.specs.declared.Value.{Value}
 use Rattle.machine.specs.declared.BodyOp.TheVariants.{If, PassOver}
 use Rattle.machine.specs.declared.Work.TheVariants.{Nothing}
 use Rattle.machine.specs.declared.Next.TheVariants.{Works, Inline}
-use Rattle.machine.specs.declared.Effect.TheVariants.{Fail, Acts}
+use Rattle.machine.specs.declared.Effect.TheVariants.{Acts}
 use Rattle.machine.specs.declared.Literal.TheVariants.{WithBody}
 use Rattle.machine.specs.declared.Role.TheVariants as role
 use Rattle.machine.specs.Skeleton.{solid, role_of, one_of}
@@ -25,9 +26,6 @@ use Rattle.machine.specs.State.{State}
 use Rattle.machine.specs.Contexts.{above}
 use Rattle.machine.specs.Engine.{limited, provided, pops, inline, worked, affected, does}
 use Rattle.machine.specs.Step.{effect_at, execute}
-use Rattle.operands.specs.declared.Card.{Card}
-use Rattle.operands.specs.declared.Card.TheVariants.{No, Is}
-use Rattle.operands.specs.Operands.{card_of}
 use Rattle.operands.proofs.Reading.{no_card, is_card, when_so, when_not}
 use Rattle.state.specs.declared.Registers.{Registers}
 use Rattle.state.specs.declared.Tops.{Tops}
@@ -60,25 +58,25 @@ module _ {w : List ℕ} {r : Registers} (code : Code) (start len : ℕ) (t : Top
   pub if_few : {r' : Registers} → t.count < 1 → r' ≡ failed r → Tried (execute code (WithBody 239 start len)) w r w r'
   if_few {r'} h q = holder_few code 239 start len 1 If t g if_is if_one et h q
 
-  module _ (h : 1 ≤ t.count) (x : Value) (ex : x ≡ value_in t.first) (c : Card) (ec : card_of c ≡ cardinal? x) where
-    pub if_fails : {r' : Registers} → c ≡ No → r' ≡ failed r → Tried (execute code (WithBody 239 start len)) w r w r'
+  module _ (h : 1 ≤ t.count) (x : Value) (ex : x ≡ value_in t.first) (c : Option ℕ) (ec : c ≡ cardinal? x) where
+    pub if_fails : {r' : Registers} → c ≡ None → r' ≡ failed r → Tried (execute code (WithBody 239 start len)) w r w r'
     unfolding body_effect answer
     if_fails {r'} e q =
-        let u = holder_done code 239 start len 1 If t g if_is if_one et x Fail h ex (no_card x _ ec e) refl (is_fail code Fail (busy_lower 1 g refl) refl refl) in
+        let u = holder_done code 239 start len 1 If t g if_is if_one et x None h ex (no_card x _ ec e) refl (is_fail code None (busy_lower 1 g refl) refl refl) in
         tried_no {f = execute code (WithBody 239 start len)} g (sym u.does) q
 
-    module _ (i : ℕ) (e : c ≡ Is i) (q : Registers) (eq : q ≡ trying r (r.height - 1) r.depth r.used r.ok) where
+    module _ (i : ℕ) (e : c ≡ Some i) (q : Registers) (eq : q ≡ trying r (r.height - 1) r.depth r.used r.ok) where
       pub if_passes : {r' : Registers} → i ≡ 0 → r' ≡ trying q q.height q.depth q.used true → Tried (execute code (WithBody 239 start len)) w r w r'
       unfolding body_effect
       if_passes {r'} z k =
-          holder_done code 239 start len 1 If t g if_is if_one et x (Acts (Works Nothing)) h ex (when_so _ _ (eq-eqb i 0 z) ∙ is_card x _ ec e) eq
-          (is_acts code (Acts (Works Nothing)) (Works Nothing) refl (by_works code (Works Nothing) Nothing refl (nothing_done code (busy_lower 1 g eq) k)))
+          holder_done code 239 start len 1 If t g if_is if_one et x (Some (Acts (Works Nothing))) h ex (when_so _ _ (eq-eqb i 0 z) ∙ is_card x _ ec e) eq
+          (is_acts code (Some (Acts (Works Nothing))) (Works Nothing) refl (by_works code (Works Nothing) Nothing refl (nothing_done code (busy_lower 1 g eq) k)))
 
       pub if_enters : {w' : List ℕ} {r' : Registers} → (i ≡ 0 → ⊥) → Tried (inline code start len false) w q w' r' → Tried (execute code (WithBody 239 start len)) w r w' r'
       unfolding body_effect
       if_enters {w'} {r'} z d =
-          holder_done code 239 start len 1 If t g if_is if_one et x (Acts (Inline start len false)) h ex (when_not _ _ (ne_eqb i 0 z) ∙ is_card x _ ec e) eq
-          (is_acts code (Acts (Inline start len false)) (Inline start len false) refl (by_inline code (Inline start len false) start len false refl d))
+          holder_done code 239 start len 1 If t g if_is if_one et x (Some (Acts (Inline start len false))) h ex (when_not _ _ (ne_eqb i 0 z) ∙ is_card x _ ec e) eq
+          (is_acts code (Some (Acts (Inline start len false))) (Inline start len false) refl (by_inline code (Inline start len false) start len false refl d))
 
 -- ---- CORRECT and IFCOPY
 

@@ -23,7 +23,6 @@ ghost use Rattle.sprints.specs.Swift.{origin, ending};
 ghost use Rattle.rides.specs.Rides.{Paced, Alighted, Led, PastHeld};
 
 use machine::Value;
-use operands::Card;
 use state::Registers;
 
 // ---- the running body
@@ -74,23 +73,21 @@ fn run_operator<'a>(w: &mut [u8], r: Registers, pre: &'a [u8], body: &'a [u8]) -
     if t.count < 1 {
         return state::stack::failed(r);
     }
-    match state::values::value_of(t.first) {
-        Value::Operator {
-            origin,
-            start,
-            len,
-            first,
-        } => {
-            let mut q = r;
-            q.height = r.height - 1;
-            let k = effects::callee_of(r.used, pre, body, origin, start, len, first);
-            if k.there {
-                return contexts::bodies::call(w, q, origin, k.at, k.end, table::words::size(first));
-            }
-            state::stack::failed(q)
-        }
-        _ => state::stack::failed(r),
-    }
+    let Value::Operator {
+        origin,
+        start,
+        len,
+        first,
+    } = state::values::value_of(t.first)
+    else {
+        return state::stack::failed(r);
+    };
+    let mut q = r;
+    q.height = r.height - 1;
+    let Some(k) = effects::callee_of(r.used, pre, body, origin, start, len, first) else {
+        return state::stack::failed(q);
+    };
+    contexts::bodies::call(w, q, origin, k.at, k.end, table::words::size(first))
 }
 
 // A step with DO, after which the body goes on at `next`.
@@ -202,17 +199,15 @@ fn if_so(w: &mut [u8], r: Registers, b: &[u8], start: usize, end: usize) -> Regi
         return state::stack::failed(r);
     }
     let x = state::values::value_of(t.first);
-    match operands::values::cardinal(x) {
-        Card::No => state::stack::failed(r),
-        Card::Is(i) => {
-            let mut q = r;
-            q.height = r.height - 1;
-            if i == 0 {
-                return effects::done(q);
-            }
-            enter_if(w, q, b, start, end)
-        }
+    let Some(i) = operands::values::cardinal(x) else {
+        return state::stack::failed(r);
+    };
+    let mut q = r;
+    q.height = r.height - 1;
+    if i == 0 {
+        return effects::done(q);
     }
+    enter_if(w, q, b, start, end)
 }
 
 // A step with IF, whose body's `{` stands at `brace` of b and which ends at `end`.

@@ -1,5 +1,6 @@
 -- A literal that makes no cells and enters no body does the same wherever its body goes on and however many steps are counted. In order:
 -- contexts moved; effects; a step; what the table says. Assumes nothing.
+use Rattle.std.specs.Prelude.{Option as Maybe, Some, None}
 use Prim.Native.Nat.{ℕ, suc, ◌<◌}
 use mathlib.Core.Path.{◌≡◌, refl, sym, ap, ◌∙◌}
 use mathlib.Core.Bool.{Bool, true, false, cond, not, ◌&&◌}
@@ -14,7 +15,7 @@ use Rattle.machine.specs.declared.Work.TheVariants.{Nothing, Fetch, Element, Bui
 use Rattle.machine.specs.declared.Next.{Next}
 use Rattle.machine.specs.declared.Next.TheVariants.{Works, Inline, Call, Store, Place, Remove, Tally}
 use Rattle.machine.specs.declared.Effect.{Effect}
-use Rattle.machine.specs.declared.Effect.TheVariants.{Fail, Gives, Gives2, Acts}
+use Rattle.machine.specs.declared.Effect.TheVariants.{Gives, Gives2, Acts}
 use Rattle.machine.specs.declared.Literal.{Literal}
 use Rattle.machine.specs.State.{Entry, val, mark, Context, State, running}
 use Rattle.machine.specs.Literal.{Code, bytes_of, Found, found_at}
@@ -134,23 +135,23 @@ module _ (code : Code) (p n : ℕ) where
   does_free (Remove k) f s = rw (moved_id p s.contexts) (removed_free _ k _ _ s)
   does_free Tally f s = rw (moved_id p s.contexts) (tallied_free _ _ _ s)
 
-  affected_free : (e : Effect) → flat e ≡ true → (s : State) → affected code e (ahead p n s) ≡ onto p n (affected code e s)
+  affected_free : (e : Maybe Effect) → flat e ≡ true → (s : State) → affected code e (ahead p n s) ≡ onto p n (affected code e s)
   unfolding affected
-  affected_free Fail f s = not_on f
-  affected_free (Gives a) f s = push_free _ s
-  affected_free (Gives2 a b) f s = push_free _ (with_stack (val (Number a) ∷ s.stack) s)
-  affected_free (Acts x) f s = does_free x f s
+  affected_free None f s = not_on f
+  affected_free (Some (Gives a)) f s = push_free _ s
+  affected_free (Some (Gives2 a b)) f s = push_free _ (with_stack (val (Number a) ∷ s.stack) s)
+  affected_free (Some (Acts x)) f s = does_free x f s
 
   pub execute_free : (x : Literal) (s : State) → flat (effect_at x s) ≡ true → execute code x (ahead p n s) ≡ onto p n (execute code x s)
   unfolding execute effect_at pops
   execute_free x s f = provided_free _ _ _ (affected_free (effect_at x s) f (pops (popped x) s))
 
-  marked_free : (k : ℕ) (e : Effect) → e ≡ Acts (Place k) → (s : State) → affected code e (ahead p n s) ≡ onto p n (affected code e s)
+  marked_free : (k : ℕ) (e : Maybe Effect) → e ≡ Some (Acts (Place k)) → (s : State) → affected code e (ahead p n s) ≡ onto p n (affected code e s)
   unfolding affected does
   marked_free k e i s = rw i (placed_free k s)
 
   -- a mark placed
-  pub mark_free : (k : ℕ) (x : Literal) (s : State) → effect_at x s ≡ Acts (Place k) → execute code x (ahead p n s) ≡ onto p n (execute code x s)
+  pub mark_free : (k : ℕ) (x : Literal) (s : State) → effect_at x s ≡ Some (Acts (Place k)) → execute code x (ahead p n s) ≡ onto p n (execute code x s)
   unfolding execute effect_at pops
   mark_free k x s e = provided_free _ _ _ (marked_free k (effect_at x s) e (pops (popped x) s))
 

@@ -1,11 +1,12 @@
 -- Effects that make no cells, enter no body and place no mark. Assumes nothing.
+use Rattle.std.specs.Prelude.{Option, Some, None}
 use mathlib.Core.Bool.{Bool, true, false}
 use Rattle.machine.specs.declared.Work.{Work}
 use Rattle.machine.specs.declared.Work.TheVariants.{Nothing, Fetch, Element, Build, Spell, Utter, Compose, Repeat, Turn, Match, Report}
 use Rattle.machine.specs.declared.Next.{Next}
 use Rattle.machine.specs.declared.Next.TheVariants.{Works, Inline, Call, Store, Place, Remove, Tally}
 use Rattle.machine.specs.declared.Effect.{Effect}
-use Rattle.machine.specs.declared.Effect.TheVariants.{Fail, Gives, Gives2, Acts}
+use Rattle.machine.specs.declared.Effect.TheVariants.{Gives, Gives2, Acts}
 
 abbrev pub flat_work : Work → Bool
 flat_work Nothing = true
@@ -29,8 +30,8 @@ flat_next (Place n) = false
 flat_next (Remove n) = true
 flat_next Tally = true
 
-abbrev pub flat : Effect → Bool
-flat Fail = false
-flat (Gives a) = true
-flat (Gives2 a b) = true
-flat (Acts x) = flat_next x
+abbrev pub flat : Option Effect → Bool
+flat None = false
+flat (Some (Gives a)) = true
+flat (Some (Gives2 a b)) = true
+flat (Some (Acts x)) = flat_next x

@@ -1,5 +1,6 @@
 -- What MARK under no value and literals with a flat effect leave as it is, so that the new height of the stack tells the registers after
 -- them. Assumes nothing.
+use Rattle.std.specs.Prelude.{Option as Maybe, Some, None}
 use Prim.Native.Nat.{ℕ, suc, ◌-◌, ◌≤◌, ◌<◌}
 use native.Mathlib.Omega.{arith}
 use mathlib.Core.Path.{◌≡◌, refl, sym, ap, ◌∙◌}
@@ -15,7 +16,7 @@ use Rattle.machine.specs.declared.Work.TheVariants.{Nothing, Fetch, Element, Bui
 use Rattle.machine.specs.declared.Next.{Next}
 use Rattle.machine.specs.declared.Next.TheVariants.{Works, Inline, Call, Store, Place, Remove, Tally}
 use Rattle.machine.specs.declared.Effect.{Effect}
-use Rattle.machine.specs.declared.Effect.TheVariants.{Fail, Gives, Gives2, Acts}
+use Rattle.machine.specs.declared.Effect.TheVariants.{Gives, Gives2, Acts}
 use Rattle.machine.specs.declared.Literal.{Literal}
 use Rattle.machine.specs.State.{Entry, val, mark, Context, State, running}
 use Rattle.machine.specs.Literal.{Code}
@@ -139,12 +140,12 @@ module _ (code : Code) (s : State) where
   level_does (Remove n) f = level_removed _ n _ _ refl
   level_does Tally f = level_tallied _ _ _
 
-  level_affected : (e : Effect) → flat e ≡ true → OnSome (Keeps s) (affected code e s)
+  level_affected : (e : Maybe Effect) → flat e ≡ true → OnSome (Keeps s) (affected code e s)
   unfolding affected push beneath
-  level_affected Fail f = not_on f
-  level_affected (Gives a) f = level_push _
-  level_affected (Gives2 a b) f = limited_on (Keeps s) _ (λ h. record { contexts = refl; cells = refl; skipping = refl; steps = refl; errors = refl; low = omega arith; here = refl; ends = refl })
-  level_affected (Acts x) f = level_does x f
+  level_affected None f = not_on f
+  level_affected (Some (Gives a)) f = level_push _
+  level_affected (Some (Gives2 a b)) f = limited_on (Keeps s) _ (λ h. record { contexts = refl; cells = refl; skipping = refl; steps = refl; errors = refl; low = omega arith; here = refl; ends = refl })
+  level_affected (Some (Acts x)) f = level_does x f
 
 -- values popped before
 level_popped : (n : ℕ) (s : State) (o : Option State) → OnSome (Keeps (pops n s)) o → OnSome (Keeps s) o
@@ -166,7 +167,7 @@ module _ (code : Code) (top : ℕ) where
       let e : length (over (values s) (beneath s.stack)) ≡ length s.stack = ap length (over_above s.stack) in
       provided_on _ _ _ (λ _. limited_on (Level top s) _ (λ _. record { contexts = refl; cells = refl; skipping = refl; steps = refl; errors = refl; low = omega (arith, e, h); here = refl; ends = refl }))
 
-  level_marked : (s : State) (e : Effect) → e ≡ Acts (Place 0) → suc (length s.stack) ≤ top → OnSome (Level top s) (affected code e s)
+  level_marked : (s : State) (e : Maybe Effect) → e ≡ Some (Acts (Place 0)) → suc (length s.stack) ≤ top → OnSome (Level top s) (affected code e s)
   unfolding affected does
   level_marked s e i h = rw i (level_placed s h)
 
@@ -175,7 +176,7 @@ module _ (code : Code) (top : ℕ) where
   below_popped s none h = tt
   below_popped s (some t) h = record { contexts = h.contexts; cells = h.cells; skipping = h.skipping; steps = h.steps; errors = h.errors; low = h.low; here = h.here; ends = h.ends }
 
-  level_mark : (x : Literal) (s : State) → popped x ≡ 1 → effect_at x s ≡ Acts (Place 0) → length s.stack ≤ top → OnSome (Level top s) (execute code x s)
+  level_mark : (x : Literal) (s : State) → popped x ≡ 1 → effect_at x s ≡ Some (Acts (Place 0)) → length s.stack ≤ top → OnSome (Level top s) (execute code x s)
   unfolding execute pops
   level_mark x s one e h =
       rw one
@@ -234,7 +235,7 @@ module _ {w w' : List ℕ} {r : Registers} (code : Code) (x : Literal) (f : flat
   flat_of h p a t = by_ok code x (level_execute code x (abs w r) f) (λ q n. execute_free code q n x (abs w r) f) h p p.ok refl a t
 
 -- the same of MARK under no value
-pub flat_mark : {top : ℕ} {w w' : List ℕ} {r : Registers} (code : Code) (x : Literal) → popped x ≡ 1 → effect_at x (abs w r) ≡ Acts (Place 0) → r.height ≤ top → (h : ℕ) (p : Registers)
+pub flat_mark : {top : ℕ} {w w' : List ℕ} {r : Registers} (code : Code) (x : Literal) → popped x ≡ 1 → effect_at x (abs w r) ≡ Some (Acts (Place 0)) → r.height ≤ top → (h : ℕ) (p : Registers)
     → (p.ok ≡ true → h ≡ p.height) × (p.ok ≡ false → h ≡ 130) → Tried (execute code x) w r w' p → Flat top (execute code x) w r w' h
 flat_mark {top} {w} {w'} {r} code x one e l h p a t =
     by_ok code x (level_mark code top x (abs w r) one e (omega (arith, l, length_stack (slots w) r.height))) (λ q n. mark_free code q n 0 x (abs w r) e) h p p.ok refl a t
@@ -256,11 +257,11 @@ unfolding provided
 provided_none true = refl
 provided_none false = refl
 
-execute_none : (code : Code) (x : Literal) (s : State) → Fail ≡ effect_at x s → execute code x s ≡ none
+execute_none : (code : Code) (x : Literal) (s : State) → None ≡ effect_at x s → execute code x s ≡ none
 unfolding execute affected
 execute_none code x s e = rw (← e) (provided_none _)
 
-pub flat_fails : {top : ℕ} {w : List ℕ} {r : Registers} (code : Code) (x : Literal) → Fail ≡ effect_at x (abs w r) → Flat top (execute code x) w r w 130
+pub flat_fails : {top : ℕ} {w : List ℕ} {r : Registers} (code : Code) (x : Literal) → None ≡ effect_at x (abs w r) → Flat top (execute code x) w r w 130
 unfolding effect_at
 flat_fails {w = w} {r = r} code x e =
     record { made = λ b. absurd (omega arith); stays = stays_none 130 (omega arith); back = λ b. refl; free = λ b. absurd (omega arith); fails = λ _ p n. execute_none code x (ahead p n (abs w r)) e }

@@ -1,5 +1,5 @@
 -- Literals executed several in a row. In order: a literal by its kind; operators by their number; a step; several. Assumes nothing.
-use Rattle.std.specs.Prelude.{Ok, Err}
+use Rattle.std.specs.Prelude.{Option as Maybe, Some, None, Ok, Err}
 use Prim.Native.Nat.{ℕ, suc, ◌+◌, ◌-◌, ◌≤◌, ◌<◌, zero}
 use native.Mathlib.Omega.{arith}
 use mathlib.Core.Path.{◌≡◌, refl, sym, ap, ◌∙◌}
@@ -30,7 +30,7 @@ use Rattle.machine.specs.declared.Role.TheVariants as role
 use Rattle.machine.specs.declared.Literal.{Literal}
 use Rattle.machine.specs.declared.Literal.TheVariants.{Figure, Name, Plain}
 use Rattle.machine.specs.declared.Effect.{Effect}
-use Rattle.machine.specs.declared.Effect.TheVariants.{Fail, Gives, Acts}
+use Rattle.machine.specs.declared.Effect.TheVariants.{Gives, Acts}
 use Rattle.machine.specs.declared.Next.TheVariants.{Works, Place, Remove, Tally}
 use Rattle.machine.specs.declared.Work.TheVariants.{Nothing, Repeat, Turn}
 use Rattle.machine.specs.declared.Op.{Op}
@@ -59,9 +59,6 @@ use Rattle.machine.specs.Contexts.{above, fault}
 use Rattle.machine.specs.Engine.{provided, pops, repeat, turn, worked, place, remove, tally, does, affected, push}
 use Rattle.machine.specs.Step.{effect_at, execute, executed, is_unmark0, literal_step, step_by, due_in, step, run, ended}
 use Rattle.machine.proofs.Inside.{token_inside}
-use Rattle.operands.specs.declared.Card.{Card}
-use Rattle.operands.specs.declared.Card.TheVariants as card
-use Rattle.operands.specs.Operands.{card_of}
 use Rattle.operands.proofs.Reading.{is_card}
 use Rattle.literals.specs.declared.Due.{Due}
 use Rattle.literals.specs.Dues as dues
@@ -82,7 +79,7 @@ use Rattle.state.specs.Operations as table
 -- ---- an operator without a body, in a row
 
 module _ {w w' : List ℕ} {r q r' : Registers} (code : Code) (n a : ℕ) (o : Op) (t : Tops) (g : Busy w r) (eo : o ≡ op_of n) (ea : (a ≡ arity_of o) × (a ≤ 2)) (et : Topmost (above (stack_of (slots w) r.height)) t)
-    (x y : Value) (e : Effect) (h : a ≤ t.count) (ex : x ≡ value_in t.first) (ey : y ≡ value_in t.second) (ee : e ≡ effect_of o x y) (eq : q ≡ trying r (r.height - a) r.depth r.used r.ok) (d : Tried (affected code e) w q w' r') where
+    (x y : Value) (e : Maybe Effect) (h : a ≤ t.count) (ex : x ≡ value_in t.first) (ey : y ≡ value_in t.second) (ee : e ≡ effect_of o x y) (eq : q ≡ trying r (r.height - a) r.depth r.used r.ok) (d : Tried (affected code e) w q w' r') where
   pub plain_flat : (k : ℕ) → flat e ≡ true → (r'.ok ≡ true → k ≡ r'.height) × (r'.ok ≡ false → k ≡ 130) → Flat (marked w r.height) (execute code (Plain n)) w r w' k
   plain_flat k f i = flat_of code (Plain n) (rw (← (plain_effect code n a o t g eo ea et x y e h ex ey ee)) f) k r' i (plain_done code n a o t g eo ea et x y e h ex ey ee eq d)
 
@@ -175,12 +172,12 @@ module _ (n : ℕ) (a b : num.Number) (r : Answer) where
   is_sub (inr (inr (inr e))) f g h i = rw (e, ← by_number.10, i)
 
   -- the number that it gives
-  pub gives_number : (c : num.Number) (x y : Value) → r ≡ Ok c → x ≡ Number b → y ≡ Number a → answered r ≡ effect_of (op_of n) (Number b) (Number a) → Gives c ≡ effect_of (op_of n) x y
+  pub gives_number : (c : num.Number) (x y : Value) → r ≡ Ok c → x ≡ Number b → y ≡ Number a → answered r ≡ effect_of (op_of n) (Number b) (Number a) → Some (Gives c) ≡ effect_of (op_of n) x y
   unfolding answered
   gives_number c x y e ex ey i = rw (ex, ey) (rw e at i)
 
 -- or that there is none
-pub fails_number : (n : ℕ) (a b : num.Number) (r : Answer) (x y : Value) {why : NoNumber} → r ≡ Err why → x ≡ Number b → y ≡ Number a → answered r ≡ effect_of (op_of n) (Number b) (Number a) → Fail ≡ effect_of (op_of n) x y
+pub fails_number : (n : ℕ) (a b : num.Number) (r : Answer) (x y : Value) {why : NoNumber} → r ≡ Err why → x ≡ Number b → y ≡ Number a → answered r ≡ effect_of (op_of n) (Number b) (Number a) → None ≡ effect_of (op_of n) x y
 unfolding answered
 fails_number n a b r x y k ex ey i = rw (ex, ey) (rw k at i)
 
@@ -239,7 +236,7 @@ unfolding arity_of frame_arity
 frame_one Fget = (refl, omega arith)
 frame_one Fset = (refl, omega arith)
 
-module _ (e : Effect) (x y : Value) where
+module _ (e : Maybe Effect) (x y : Value) where
   pub by_frame : (k : FrameOp) → e ≡ frame_effect k x → e ≡ effect_of (OnFrame k) x y
   unfolding effect_of
   by_frame k i = i
@@ -268,11 +265,11 @@ mark_pops : popped (Plain 186) ≡ 1
 unfolding popped arity_of stack_arity
 mark_pops = rw (← by_number.11)
 
-mark_places : (n : ℕ) (x y : Value) (c : Card) → card_of c ≡ cardinal? x → c ≡ card.Is n → n ≡ 0 → Acts (Place 0) ≡ effect_of (OnStack Mark) x y
+mark_places : (n : ℕ) (x y : Value) (c : Maybe ℕ) → c ≡ cardinal? x → c ≡ Some n → n ≡ 0 → Some (Acts (Place 0)) ≡ effect_of (OnStack Mark) x y
 unfolding effect_of stack_effect
-mark_places n x y c ec e z = is_card x (λ m. Acts (Place m)) ec (rw z at e)
+mark_places n x y c ec e z = is_card x (λ m. Some (Acts (Place m))) ec (rw z at e)
 
-pop_effect : (x y : Value) → Acts (Works Nothing) ≡ effect_of (OnStack Pop) x y
+pop_effect : (x y : Value) → Some (Acts (Works Nothing)) ≡ effect_of (OnStack Pop) x y
 unfolding effect_of stack_effect
 pop_effect x y = refl
 
@@ -282,36 +279,36 @@ unfolding popped op_of op_in operators arity_of stack_arity
 pops_none = (refl, refl, refl, refl, refl)
 
 -- which is this
-own_part : (x y : Value) → (performed (Plain 181) x y ≡ Acts (Works (Repeat 1))) × (performed (Plain 188) x y ≡ Acts Tally) × (performed (Plain 1) x y ≡ Acts (Works Nothing)) × (performed (Plain 192) x y ≡ Acts (Remove 0)) × (performed (Plain 185) x y ≡ Acts (Works (Turn 2 1)))
+own_part : (x y : Value) → (performed (Plain 181) x y ≡ Some (Acts (Works (Repeat 1)))) × (performed (Plain 188) x y ≡ Some (Acts Tally)) × (performed (Plain 1) x y ≡ Some (Acts (Works Nothing))) × (performed (Plain 192) x y ≡ Some (Acts (Remove 0))) × (performed (Plain 185) x y ≡ Some (Acts (Works (Turn 2 1))))
 unfolding performed op_of op_in operators effect_of stack_effect
 own_part x y = (refl, refl, refl, refl, refl)
 
-once_flat : (n : ℕ) (e : Effect) → ((x y : Value) → performed (Plain n) x y ≡ e) → (s : State) → flat e ≡ true → flat (effect_at (Plain n) s) ≡ true
+once_flat : (n : ℕ) (e : Maybe Effect) → ((x y : Value) → performed (Plain n) x y ≡ e) → (s : State) → flat e ≡ true → flat (effect_at (Plain n) s) ≡ true
 unfolding effect_at
 once_flat n e i s f = let vs = above s.stack in rw (i (get_or vs 0 state.zero) (get_or vs 1 state.zero)) f
 
 module _ {w w' : List ℕ} {r : Registers} (code : Code) where
-  rests : {r' : Registers} → Tried (worked code Nothing) w r w' r' → Tried (affected code (Acts (Works Nothing))) w r w' r'
+  rests : {r' : Registers} → Tried (worked code Nothing) w r w' r' → Tried (affected code (Some (Acts (Works Nothing)))) w r w' r'
   unfolding affected does
   rests t = t
 
-  repeats : {r' : Registers} → Tried (repeat 1) w r w' r' → Tried (affected code (Acts (Works (Repeat 1)))) w r w' r'
+  repeats : {r' : Registers} → Tried (repeat 1) w r w' r' → Tried (affected code (Some (Acts (Works (Repeat 1))))) w r w' r'
   unfolding affected does worked
   repeats t = t
 
-  turns : {r' : Registers} → Tried (turn 2 1) w r w' r' → Tried (affected code (Acts (Works (Turn 2 1)))) w r w' r'
+  turns : {r' : Registers} → Tried (turn 2 1) w r w' r' → Tried (affected code (Some (Acts (Works (Turn 2 1))))) w r w' r'
   unfolding affected does worked
   turns t = t
 
-  tallies : {r' : Registers} → Tried tally w r w' r' → Tried (affected code (Acts Tally)) w r w' r'
+  tallies : {r' : Registers} → Tried tally w r w' r' → Tried (affected code (Some (Acts Tally))) w r w' r'
   unfolding affected does
   tallies t = t
 
-  removes : {r' : Registers} → Tried (remove 0) w r w' r' → Tried (affected code (Acts (Remove 0))) w r w' r'
+  removes : {r' : Registers} → Tried (remove 0) w r w' r' → Tried (affected code (Some (Acts (Remove 0)))) w r w' r'
   unfolding affected does
   removes t = t
 
-  module _ (n : ℕ) (e : Effect) (z : popped (Plain n) ≡ 0) (i : (x y : Value) → performed (Plain n) x y ≡ e) where
+  module _ (n : ℕ) (e : Maybe Effect) (z : popped (Plain n) ≡ 0) (i : (x y : Value) → performed (Plain n) x y ≡ e) where
     at_once : {r' : Registers} → Tried (affected code e) w r w' r' → Tried (execute code (Plain n)) w r w' r'
     unfolding execute provided pops effect_at
     at_once t =
@@ -319,23 +316,23 @@ module _ {w w' : List ℕ} {r : Registers} (code : Code) where
         tried_as (rw (z, i (get_or vs 0 state.zero) (get_or vs 1 state.zero), le-leb 0 (length vs) (omega arith), over_above (stack_of (slots w) r.height))) t
 
   pub is_unmark : (n : ℕ) (p : Registers) → n ≡ 192 → Tried (remove 0) w r w' p → Tried (execute code (Plain n)) w r w' p
-  is_unmark n p e t = rw e (at_once 192 (Acts (Remove 0)) pops_none.3 (λ x y. (own_part x y).3) (removes t))
+  is_unmark n p e t = rw e (at_once 192 (Some (Acts (Remove 0))) pops_none.3 (λ x y. (own_part x y).3) (removes t))
 
   module _ (n h : ℕ) (p : Registers) (a : (p.ok ≡ true → h ≡ p.height) × (p.ok ≡ false → h ≡ 130)) where
     pub is_dup : n ≡ 181 → Tried (repeat 1) w r w' p → Flat (marked w r.height) (execute code (Plain n)) w r w' h × ((h ≡ 129 → ⊥) → role_of n ≡ role.Plain)
     is_dup e t =
         rw e
-        (flat_of code (Plain 181) (once_flat 181 (Acts (Works (Repeat 1))) (λ x y. (own_part x y).0) (abs w r) refl) h p a (at_once 181 (Acts (Works (Repeat 1))) pops_none.0 (λ x y. (own_part x y).0) (repeats t)), λ _. op_role 181 (OnStack Dup) by_number.3 refl)
+        (flat_of code (Plain 181) (once_flat 181 (Some (Acts (Works (Repeat 1)))) (λ x y. (own_part x y).0) (abs w r) refl) h p a (at_once 181 (Some (Acts (Works (Repeat 1)))) pops_none.0 (λ x y. (own_part x y).0) (repeats t)), λ _. op_role 181 (OnStack Dup) by_number.3 refl)
 
     pub is_exch : n ≡ 185 → Tried (turn 2 1) w r w' p → Flat (marked w r.height) (execute code (Plain n)) w r w' h × ((h ≡ 129 → ⊥) → role_of n ≡ role.Plain)
     is_exch e t =
         rw e
-        (flat_of code (Plain 185) (once_flat 185 (Acts (Works (Turn 2 1))) (λ x y. (own_part x y).4) (abs w r) refl) h p a (at_once 185 (Acts (Works (Turn 2 1))) pops_none.4 (λ x y. (own_part x y).4) (turns t)), λ _. op_role 185 (OnStack Exch) by_number.12 refl)
+        (flat_of code (Plain 185) (once_flat 185 (Some (Acts (Works (Turn 2 1)))) (λ x y. (own_part x y).4) (abs w r) refl) h p a (at_once 185 (Some (Acts (Works (Turn 2 1)))) pops_none.4 (λ x y. (own_part x y).4) (turns t)), λ _. op_role 185 (OnStack Exch) by_number.12 refl)
 
     pub is_count : n ≡ 188 → Tried tally w r w' p → Flat (marked w r.height) (execute code (Plain n)) w r w' h × ((h ≡ 129 → ⊥) → role_of n ≡ role.Plain)
     is_count e t =
         rw e
-        (flat_of code (Plain 188) (once_flat 188 (Acts Tally) (λ x y. (own_part x y).1) (abs w r) refl) h p a (at_once 188 (Acts Tally) pops_none.1 (λ x y. (own_part x y).1) (tallies t)), λ _. op_role 188 (OnStack Count) by_number.4 refl)
+        (flat_of code (Plain 188) (once_flat 188 (Some (Acts Tally)) (λ x y. (own_part x y).1) (abs w r) refl) h p a (at_once 188 (Some (Acts Tally)) pops_none.1 (λ x y. (own_part x y).1) (tallies t)), λ _. op_role 188 (OnStack Count) by_number.4 refl)
 
 -- values popped, the height that is left
 pub pop_flat : {w : List ℕ} {r : Registers} (code : Code) (t : Tops) → Busy w r → Topmost (above (stack_of (slots w) r.height)) t → 1 ≤ t.count → 1 ≤ r.height → Flat (marked w r.height) (execute code (Plain 180)) w r w (r.height - 1)
@@ -343,22 +340,22 @@ unfolding effect_at performed
 pop_flat {w} {r} code t g et h k =
     let q = trying r (r.height - 1) r.depth r.used r.ok in
     flat_made code (Plain 180) (rw (← by_number.2) (ap flat (sym (pop_effect _ _)))) (r.height - 1) (omega arith)
-    (plain_done code 180 1 (OnStack Pop) t g by_number.2 pop_one et (value_in t.first) (value_in t.second) (Acts (Works Nothing)) h refl refl (pop_effect (value_in t.first) (value_in t.second)) refl
+    (plain_done code 180 1 (OnStack Pop) t g by_number.2 pop_one et (value_in t.first) (value_in t.second) (Some (Acts (Works Nothing))) h refl refl (pop_effect (value_in t.first) (value_in t.second)) refl
     (rests code (nothing_done code (busy_lower 1 g refl) refl)))
 
 -- MARK under no value
-pub mark_flat : {top : ℕ} {w w' : List ℕ} {r q p : Registers} (code : Code) (n h : ℕ) (t : Tops) → Busy w r → Topmost (above (stack_of (slots w) r.height)) t → 1 ≤ t.count → (x : Value) → x ≡ value_in t.first → (c : Card) → card_of c ≡ cardinal? x → c ≡ card.Is n → n ≡ 0
+pub mark_flat : {top : ℕ} {w w' : List ℕ} {r q p : Registers} (code : Code) (n h : ℕ) (t : Tops) → Busy w r → Topmost (above (stack_of (slots w) r.height)) t → 1 ≤ t.count → (x : Value) → x ≡ value_in t.first → (c : Maybe ℕ) → c ≡ cardinal? x → c ≡ Some n → n ≡ 0
     → r.height ≤ top → q ≡ trying r (r.height - 1) r.depth r.used r.ok → Tried (place 0) w q w' p → (p.ok ≡ true → h ≡ p.height) × (p.ok ≡ false → h ≡ 130) → Flat top (execute code (Plain 186)) w r w' h
 mark_flat {p = p} code n h t g et there x ex c ec e z low eq d a =
     let y = value_in t.second in
     let i = mark_places n x y c ec e z in
-    flat_mark code (Plain 186) mark_pops (sym (plain_effect code 186 1 (OnStack Mark) t g by_number.11 mark_one et x y (Acts (Place 0)) there ex refl i)) low h p a
-    (plain_done code 186 1 (OnStack Mark) t g by_number.11 mark_one et x y (Acts (Place 0)) there ex refl i eq (is_acts code (Acts (Place 0)) (Place 0) refl (by_place code (Place 0) 0 0 refl refl d)))
+    flat_mark code (Plain 186) mark_pops (sym (plain_effect code 186 1 (OnStack Mark) t g by_number.11 mark_one et x y (Some (Acts (Place 0))) there ex refl i)) low h p a
+    (plain_done code 186 1 (OnStack Mark) t g by_number.11 mark_one et x y (Some (Acts (Place 0))) there ex refl i eq (is_acts code (Some (Acts (Place 0))) (Place 0) refl (by_place code (Place 0) 0 0 refl refl d)))
 
 pub is_nop : {w : List ℕ} {r : Registers} (code : Code) (n : ℕ) → Busy w r → n ≡ 1 → Flat (marked w r.height) (execute code (Plain n)) w r w r.height × ((r.height ≡ 129 → ⊥) → role_of n ≡ role.Plain)
 is_nop {w} {r} code n g e =
     rw e
-    (flat_made code (Plain 1) (once_flat 1 (Acts (Works Nothing)) (λ x y. (own_part x y).2) (abs w r) refl) r.height g.stack_fits (at_once code 1 (Acts (Works Nothing)) pops_none.2 (λ x y. (own_part x y).2) (rests code (nothing_done code g refl))), λ _. op_role 1 (OnStack Nop) by_number.5 refl)
+    (flat_made code (Plain 1) (once_flat 1 (Some (Acts (Works Nothing))) (λ x y. (own_part x y).2) (abs w r) refl) r.height g.stack_fits (at_once code 1 (Some (Acts (Works Nothing))) pops_none.2 (λ x y. (own_part x y).2) (rests code (nothing_done code g refl))), λ _. op_role 1 (OnStack Nop) by_number.5 refl)
 
 -- the same registers one by one
 quiet_is : (r : Registers) → r.skipping ≡ false → r.ok ≡ false → r ≡ quiet r.height r.depth r.used r.steps r.errors

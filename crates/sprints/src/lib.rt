@@ -23,7 +23,6 @@ ghost use Rattle.sprints.specs.Swift.{TokenThere, LiteralsLeft, undone_height, f
 use literals::reading::{NAME, TEXT};
 use machine::{Effect, FrameOp, Next, TestOp, Value, VectorOp, Work};
 use numbers::{NoNumber, Number};
-use operands::Card;
 use state::Registers;
 use tokens::Form;
 
@@ -81,18 +80,16 @@ fn framed(w: &mut [u8], r: Registers, o: FrameOp) -> usize
     let mut q = r;
     q.height = r.height - 1;
     match e {
-        Effect::Acts(next) => match next {
-            Next::Works(k) => match k {
-                Work::Fetch { j } => height_of(contexts::frames::fetch(
-                    w,
-                    q,
-                    table::words::size(j),
-                )),
-                _ => UNDONE,
-            },
-            Next::Store { j } => height_of(contexts::frames::store(w, q, table::words::size(j))),
-            _ => UNDONE,
-        },
+        Some(Effect::Acts(Next::Works(Work::Fetch { j }))) => height_of(contexts::frames::fetch(
+            w,
+            q,
+            table::words::size(j),
+        )),
+        Some(Effect::Acts(Next::Store { j })) => height_of(contexts::frames::store(
+            w,
+            q,
+            table::words::size(j),
+        )),
         _ => UNDONE,
     }
 }
@@ -109,17 +106,15 @@ fn mark(w: &mut [u8], r: Registers, clear: usize) -> usize
     if t.count < 1 {
         return UNDONE;
     }
-    match operands::values::cardinal(state::values::value_of(t.first)) {
-        Card::No => UNDONE,
-        Card::Is(n) => {
-            if n != 0 {
-                return UNDONE;
-            }
-            let mut q = r;
-            q.height = r.height - 1;
-            height_of(marks::place_bare(w, q))
-        }
+    let Some(n) = operands::values::cardinal(state::values::value_of(t.first)) else {
+        return UNDONE;
+    };
+    if n != 0 {
+        return UNDONE;
     }
+    let mut q = r;
+    q.height = r.height - 1;
+    height_of(marks::place_bare(w, q))
 }
 
 // FGET or FSET
@@ -165,19 +160,17 @@ fn reckon(w: &mut [u8], r: Registers, n: u16) -> usize
     if t.count < 2 {
         return UNDONE;
     }
-    match state::values::value_of(t.first) {
-        Value::Number(b) => match state::values::value_of(t.second) {
-            Value::Number(a) => {
-                let mut q = r;
-                q.height = r.height - 2;
-                match two_numbers(n, a, b) {
-                    Ok(c) => height_of(state::stack::push_number(w, q, c)),
-                    Err(_) => FAILED,
-                }
-            }
-            _ => UNDONE,
-        },
-        _ => UNDONE,
+    let Value::Number(b) = state::values::value_of(t.first) else {
+        return UNDONE;
+    };
+    let Value::Number(a) = state::values::value_of(t.second) else {
+        return UNDONE;
+    };
+    let mut q = r;
+    q.height = r.height - 2;
+    match two_numbers(n, a, b) {
+        Ok(c) => height_of(state::stack::push_number(w, q, c)),
+        Err(_) => FAILED,
     }
 }
 
@@ -213,7 +206,7 @@ fn test(w: &mut [u8], r: Registers, o: TestOp) -> usize
     let mut q = r;
     q.height = r.height - 2;
     match e {
-        Effect::Gives(a) => height_of(state::stack::push_number(w, q, a)),
+        Some(Effect::Gives(a)) => height_of(state::stack::push_number(w, q, a)),
         _ => UNDONE,
     }
 }
@@ -249,18 +242,12 @@ fn look(
         ok: false,
     };
     match e {
-        Effect::Gives2(a, b) => height_of(state::stack::push_two(w, q, a, b)),
-        Effect::Acts(next) => match next {
-            Next::Works(k) => match k {
-                Work::Element { cell } => height_of(store::cells::element(
-                    w,
-                    q,
-                    table::words::size(cell),
-                )),
-                _ => UNDONE,
-            },
-            _ => UNDONE,
-        },
+        Some(Effect::Gives2(a, b)) => height_of(state::stack::push_two(w, q, a, b)),
+        Some(Effect::Acts(Next::Works(Work::Element { cell }))) => height_of(store::cells::element(
+            w,
+            q,
+            table::words::size(cell),
+        )),
         _ => UNDONE,
     }
 }

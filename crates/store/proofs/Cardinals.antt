@@ -2,7 +2,7 @@
 -- nothing.
 use mathlib.Core.Path.{◌≡◌, refl, sym, ap, ◌∙◌}
 use mathlib.Core.Bool.{Bool, true, false, cond, ◌&&◌}
-use mathlib.Core.Option.{none, some}
+use Rattle.std.specs.Prelude.{Some, None, is_some}
 use mathlib.Core.Logic.{◌⊎◌, inl, inr}
 use mathlib.Core.List.{List}
 use Prim.Native.Nat.{ℕ, suc, ◌+◌, ◌-◌, ◌≤◌, ◌<◌, min}
@@ -30,7 +30,7 @@ use Rattle.state.proofs.Cutting.{values_get}
 
 -- ---- one slot
 
-some_by : (n : ℕ) (t : Bool) → t ≡ elim (cond t (some n) none) [ none ↦ false | some k ↦ true ]
+some_by : (n : ℕ) (t : Bool) → t ≡ is_some (cond t (Some n) None)
 some_by n true = refl
 some_by n false = refl
 

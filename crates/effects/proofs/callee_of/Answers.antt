@@ -5,11 +5,11 @@ use Rattle.effects.proofs.Working.{placed_at, enters_frameless, enters_outside, 
 use Rattle.effects.proofs.callee_of.Goals as goal
 
 pub returns-then-size-used : goal.returns-then-size-used
-returns-then-size-used c = enters_frameless _ _ _ _ _ _ _ _ c.size.ensures.0 c.if-size-used.true c.no_callee.ensures
+returns-then-size-used c = enters_frameless _ _ _ _ _ _ _ _ c.size.ensures.0 c.if-size-used.true refl
 
 pub returns-then-end-b : goal.returns-then-end-b
 returns-then-end-b c =
-    enters_outside _ _ _ _ _ _ _ _ _ _ _ c.size.ensures.0 c.if-size-used.false c.size-2.ensures.0 c.size-3.ensures.0 c.bytes_of-b.ensures c.if-end-b.true c.no_callee-then-end-b.ensures
+    enters_outside _ _ _ _ _ _ _ _ _ _ _ c.size.ensures.0 c.if-size-used.false c.size-2.ensures.0 c.size-3.ensures.0 c.bytes_of-b.ensures c.if-end-b.true refl
 
 pub word-requires : goal.word-requires
 word-requires c =
@@ -21,4 +21,4 @@ word-requires-2 c =
 
 pub returns : goal.returns
 returns c =
-    enters_there _ _ _ _ _ _ _ _ _ _ _ c.size.ensures.0 c.if-size-used.false c.size-2.ensures.0 c.size-3.ensures.0 c.bytes_of-b.ensures c.if-end-b.false refl (placed_at _ _ _ _ _ c.size-4.ensures.0 c.past_comments-at.ensures c.word.ensures) c.word-2.ensures
+    enters_there _ _ _ _ _ _ _ _ _ _ _ c.size.ensures.0 c.if-size-used.false c.size-2.ensures.0 c.size-3.ensures.0 c.bytes_of-b.ensures c.if-end-b.false _ refl (placed_at _ _ _ _ _ c.size-4.ensures.0 c.past_comments-at.ensures c.word.ensures) c.word-2.ensures

@@ -1,5 +1,5 @@
 -- 2.4.9, by the definitions of `numbers`. Assumes nothing.
-use Rattle.std.specs.Prelude.{ℕ}
+use Rattle.std.specs.Prelude.{ℕ, Option}
 use Rattle.numbers.specs.declared.Number as num
 use Rattle.numbers.specs.Fraction.{Answer}
 use Rattle.numbers.specs.Arith.{sum_of, difference_of, product_of, quotient_of, negative_of, size_of, floor_of, ceiling_of, trunc_of, round_of, mod_of, rem_of}
@@ -23,14 +23,14 @@ arith_arity Div = 2
 arith_arity Mod = 2
 arith_arity Rem = 2
 
-unfoldable pub of_one : (num.Number → Answer) → Value → Effect
+unfoldable pub of_one : (num.Number → Answer) → Value → Option Effect
 of_one f x = as_number x (λ a. answered (f a))
 
 -- y and x, in the order in which they were pushed
-unfoldable pub of_two : (num.Number → num.Number → Answer) → Value → Value → Effect
+unfoldable pub of_two : (num.Number → num.Number → Answer) → Value → Value → Option Effect
 of_two f x y = as_number y (λ a. as_number x (λ b. answered (f a b)))
 
-unfoldable pub arith_effect : ArithOp → Value → Value → Effect
+unfoldable pub arith_effect : ArithOp → Value → Value → Option Effect
 arith_effect Add x y = of_two sum_of x y
 arith_effect Sub x y = of_two difference_of x y
 arith_effect Neg x y = of_one negative_of x

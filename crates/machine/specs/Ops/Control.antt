@@ -1,6 +1,6 @@
 -- 2.4.5 and 2.4.7: operators that hold a body, of which the start and the length are given. IFELSE leaves 1 if its body is not run, and 0
 -- after it if it is (R19). Assumes nothing.
-use Rattle.std.specs.Prelude.{ℕ, false, true, cond, eqb}
+use Rattle.std.specs.Prelude.{ℕ, false, true, cond, eqb, Option, Some}
 use Rattle.machine.specs.declared.Value.{Value}
 use Rattle.machine.specs.declared.BodyOp.{BodyOp}
 use Rattle.machine.specs.declared.BodyOp.TheVariants.{MakeSimpleCo, DoSaveSimpleBody, If, IfElse, PassOver}
@@ -17,9 +17,9 @@ body_arity If = 1
 body_arity IfElse = 1
 body_arity PassOver = 0
 
-unfoldable pub body_effect : BodyOp → ℕ → ℕ → Value → Effect
-body_effect MakeSimpleCo start len x = Acts (Works (Compose start len))
-body_effect DoSaveSimpleBody start len x = Acts (Inline start len false)
-body_effect If start len x = as_cardinal x (λ i. cond (eqb i 0) (Acts (Works Nothing)) (Acts (Inline start len false)))
-body_effect IfElse start len x = as_cardinal x (λ i. cond (eqb i 0) (Gives (natural 1)) (Acts (Inline start len true)))
-body_effect PassOver start len x = Acts (Works Nothing)
+unfoldable pub body_effect : BodyOp → ℕ → ℕ → Value → Option Effect
+body_effect MakeSimpleCo start len x = Some (Acts (Works (Compose start len)))
+body_effect DoSaveSimpleBody start len x = Some (Acts (Inline start len false))
+body_effect If start len x = as_cardinal x (λ i. cond (eqb i 0) (Some (Acts (Works Nothing))) (Some (Acts (Inline start len false))))
+body_effect IfElse start len x = as_cardinal x (λ i. cond (eqb i 0) (Some (Gives (natural 1))) (Some (Acts (Inline start len true))))
+body_effect PassOver start len x = Some (Acts (Works Nothing))

@@ -1,5 +1,5 @@
 -- 2.4.6. DUP is "x 1 COPY" and EXCH "x y 2 1 ROLL". Assumes nothing.
-use Rattle.std.specs.Prelude.{ℕ, Bool, ◌||◌, leb, eqb}
+use Rattle.std.specs.Prelude.{ℕ, Bool, ◌||◌, leb, eqb, Option, Some}
 use Rattle.machine.specs.declared.Value.{Value}
 use Rattle.machine.specs.declared.StackOp.{StackOp}
 use Rattle.machine.specs.declared.StackOp.TheVariants.{Pop, Copy, Dup, Roll, Exch, Mark, Unmark, Unmark0, Count, Nop, Error}
@@ -26,15 +26,15 @@ stack_arity Error = 2
 unfoldable pub mild_code : ℕ → Bool
 mild_code n = eqb n 10 || (eqb n 50 || (eqb n 60 || eqb n 100))
 
-unfoldable pub stack_effect : StackOp → Value → Value → Effect
-stack_effect Pop x y = Acts (Works Nothing)
-stack_effect Copy x y = as_cardinal x (λ n. Acts (Works (Repeat n)))
-stack_effect Dup x y = Acts (Works (Repeat 1))
-stack_effect Roll x y = as_cardinal x (λ m. as_cardinal y (λ n. only_if (leb m n) (Acts (Works (Turn n m)))))
-stack_effect Exch x y = Acts (Works (Turn 2 1))
-stack_effect Mark x y = as_cardinal x (λ n. Acts (Place n))
-stack_effect Unmark x y = as_cardinal x (λ n. Acts (Remove n))
-stack_effect Unmark0 x y = Acts (Remove 0)
-stack_effect Count x y = Acts Tally
-stack_effect Nop x y = Acts (Works Nothing)
-stack_effect Error x y = as_cardinal x (λ n. as_vector y (λ first lower count. only_if (mild_code n) (Acts (Works (Report y)))))
+unfoldable pub stack_effect : StackOp → Value → Value → Option Effect
+stack_effect Pop x y = Some (Acts (Works Nothing))
+stack_effect Copy x y = as_cardinal x (λ n. Some (Acts (Works (Repeat n))))
+stack_effect Dup x y = Some (Acts (Works (Repeat 1)))
+stack_effect Roll x y = as_cardinal x (λ m. as_cardinal y (λ n. only_if (leb m n) (Some (Acts (Works (Turn n m))))))
+stack_effect Exch x y = Some (Acts (Works (Turn 2 1)))
+stack_effect Mark x y = as_cardinal x (λ n. Some (Acts (Place n)))
+stack_effect Unmark x y = as_cardinal x (λ n. Some (Acts (Remove n)))
+stack_effect Unmark0 x y = Some (Acts (Remove 0))
+stack_effect Count x y = Some (Acts Tally)
+stack_effect Nop x y = Some (Acts (Works Nothing))
+stack_effect Error x y = as_cardinal x (λ n. as_vector y (λ first lower count. only_if (mild_code n) (Some (Acts (Works (Report y))))))

@@ -1,5 +1,5 @@
 -- 2.4.8. Assumes nothing.
-use Rattle.std.specs.Prelude.{ℕ, Bool, true, false, not, ◌&&◌, ◌||◌, eqb}
+use Rattle.std.specs.Prelude.{ℕ, Bool, true, false, not, ◌&&◌, ◌||◌, eqb, Option, Some}
 use Rattle.numbers.specs.declared.Number as num
 use Rattle.std.specs.declared.cmp.Ordering.{Ordering}
 use Rattle.std.specs.declared.cmp.Ordering.TheVariants.{Less, Equal, Greater}
@@ -41,31 +41,31 @@ type_of (Vector first lower count) = 3
 type_of (Operator origin start len first) = 4
 
 -- two identifiers are compared by their text, which is the engine's work; two numbers here; other values are never equal (R29)
-unfoldable pub equals : Value → Value → Effect
+unfoldable pub equals : Value → Value → Option Effect
 equals (Number a) (Number b) = whether (is_equal (order_of a b))
 equals (Number a) (Identifier origin start len) = whether false
 equals (Number a) (Vector first lower count) = whether false
 equals (Number a) (Operator origin start len first) = whether false
 equals (Identifier o s l) (Number b) = whether false
-equals (Identifier o s l) (Identifier origin start len) = Acts (Works (Match (Identifier o s l) (Identifier origin start len)))
+equals (Identifier o s l) (Identifier origin start len) = Some (Acts (Works (Match (Identifier o s l) (Identifier origin start len))))
 equals (Identifier o s l) (Vector first lower count) = whether false
 equals (Identifier o s l) (Operator origin start len first) = whether false
 equals (Vector f l c) y = whether false
 equals (Operator o s l f) y = whether false
 
 -- y against x, both numbers
-unfoldable pub compared : Value → Value → (num.Number → num.Number → Bool) → Effect
+unfoldable pub compared : Value → Value → (num.Number → num.Number → Bool) → Option Effect
 compared x y f = as_number y (λ a. as_number x (λ b. whether (f a b)))
 
 -- y with x, both Cardinals, each as whether it is not 0
-unfoldable pub joined : Value → Value → (Bool → Bool → Bool) → Effect
+unfoldable pub joined : Value → Value → (Bool → Bool → Bool) → Option Effect
 joined x y f = as_cardinal y (λ a. as_cardinal x (λ b. whether (f (not (eqb a 0)) (not (eqb b 0)))))
 
-unfoldable pub test_effect : TestOp → Value → Value → Effect
+unfoldable pub test_effect : TestOp → Value → Value → Option Effect
 test_effect Eq x y = equals x y
 test_effect Gt x y = compared x y (λ a b. is_less (order_of b a))
 test_effect Ge x y = compared x y (λ a b. not (is_less (order_of a b)))
 test_effect And x y = joined x y (λ a b. a && b)
 test_effect Or x y = joined x y (λ a b. a || b)
 test_effect Not x y = as_cardinal x (λ b. whether (eqb b 0))
-test_effect TypeOf x y = Gives (natural (type_of x))
+test_effect TypeOf x y = Some (Gives (natural (type_of x)))

@@ -13,12 +13,12 @@ overflow_sub-q c = tops_fit _ _ _ _ c.tops-t.ensures c.if-t-lt1.false
 
 pub returns-then-i-eq0 : goal.returns-then-i-eq0
 returns-then-i-eq0 c =
-    ((if_passes [] 0 0 _ c.requires.0 c.tops-t.ensures c.if-t-lt1.false _ c.value_of-x.ensures _ c.cardinal.ensures.0 _ c.in-Is.is _ refl c.if-i-eq0.true c.done.ensures).busy, λ code eb. if_passes code _ _ _ c.requires.0 c.tops-t.ensures c.if-t-lt1.false _ c.value_of-x.ensures _ c.cardinal.ensures.0 _ c.in-Is.is _ refl c.if-i-eq0.true c.done.ensures)
+    ((if_passes [] 0 0 _ c.requires.0 c.tops-t.ensures c.if-t-lt1.false _ c.value_of-x.ensures _ c.cardinal.ensures.0 _ c.in-Some.is _ refl c.if-i-eq0.true c.done.ensures).busy, λ code eb. if_passes code _ _ _ c.requires.0 c.tops-t.ensures c.if-t-lt1.false _ c.value_of-x.ensures _ c.cardinal.ensures.0 _ c.in-Some.is _ refl c.if-i-eq0.true c.done.ensures)
 
-pub returns-in-No : goal.returns-in-No
-returns-in-No c =
-    ((if_fails [] 0 0 _ c.requires.0 c.tops-t.ensures c.if-t-lt1.false _ c.value_of-x.ensures _ c.cardinal.ensures.0 c.in-No.is c.failed-in-No.ensures).busy, λ code eb. if_fails code _ _ _ c.requires.0 c.tops-t.ensures c.if-t-lt1.false _ c.value_of-x.ensures _ c.cardinal.ensures.0 c.in-No.is c.failed-in-No.ensures)
+pub returns-in_default : goal.returns-in_default
+returns-in_default c =
+    ((if_fails [] 0 0 _ c.requires.0 c.tops-t.ensures c.if-t-lt1.false _ c.value_of-x.ensures _ c.cardinal.ensures.0 c.in_default.is c.failed-in_default.ensures).busy, λ code eb. if_fails code _ _ _ c.requires.0 c.tops-t.ensures c.if-t-lt1.false _ c.value_of-x.ensures _ c.cardinal.ensures.0 c.in_default.is c.failed-in_default.ensures)
 
-pub returns-else-i-eq0 : goal.returns-else-i-eq0
-returns-else-i-eq0 c =
-    (c.enter_if.ensures.0, λ code eb. if_enters code _ _ _ c.requires.0 c.tops-t.ensures c.if-t-lt1.false _ c.value_of-x.ensures _ c.cardinal.ensures.0 _ c.in-Is.is _ refl c.if-i-eq0.false (c.enter_if.ensures.1 code eb))
+pub returns : goal.returns
+returns c =
+    (c.enter_if.ensures.0, λ code eb. if_enters code _ _ _ c.requires.0 c.tops-t.ensures c.if-t-lt1.false _ c.value_of-x.ensures _ c.cardinal.ensures.0 _ c.in-Some.is _ refl c.if-i-eq0.false (c.enter_if.ensures.1 code eb))

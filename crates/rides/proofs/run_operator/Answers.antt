@@ -14,15 +14,15 @@ overflow_sub-q c = tops_fit _ _ _ _ c.tops-t.ensures c.if-t-lt1.false
 
 pub call-requires : goal.call-requires
 call-requires c =
-    (busy_lower 1 c.requires.0 refl, omega (arith, c.size.ensures.0, frame_there _ _ _ _ _ _ _ c.callee_of-k.ensures c.if-k.true))
+    (busy_lower 1 c.requires.0 refl, omega (arith, c.size.ensures.0, frame_there _ _ _ _ _ _ _ c.callee_of.ensures _ c.in-Some.is))
 
-pub returns-then-k : goal.returns-then-k
-returns-then-k c =
-    do_made _ _ c.requires.0 c.tops-t.ensures c.if-t-lt1.false _ c.value_of.ensures _ _ _ _ c.in-Operator.is refl (call_made _ _ _ _ _ (busy_lower 1 c.requires.0 refl) _ c.callee_of-k.ensures _ c.if-k.true c.size.ensures.0 c.call.ensures)
+pub returns : goal.returns
+returns c =
+    do_made _ _ c.requires.0 c.tops-t.ensures c.if-t-lt1.false _ c.value_of.ensures _ _ _ _ c.in-Operator.is refl (call_made _ _ _ _ _ (busy_lower 1 c.requires.0 refl) c.callee_of.ensures _ _ c.in-Some.is c.size.ensures.0 c.call.ensures)
 
-pub returns-else-k : goal.returns-else-k
-returns-else-k c =
-    do_made _ _ c.requires.0 c.tops-t.ensures c.if-t-lt1.false _ c.value_of.ensures _ _ _ _ c.in-Operator.is refl (call_none _ _ _ _ _ (busy_lower 1 c.requires.0 refl) _ c.callee_of-k.ensures c.if-k.false c.failed-in-Operator.ensures)
+pub returns-in_default-callee_of : goal.returns-in_default-callee_of
+returns-in_default-callee_of c =
+    do_made _ _ c.requires.0 c.tops-t.ensures c.if-t-lt1.false _ c.value_of.ensures _ _ _ _ c.in-Operator.is refl (call_none _ _ _ _ _ (busy_lower 1 c.requires.0 refl) c.callee_of.ensures c.in_default-callee_of.is c.failed-in_default-callee_of.ensures)
 
 pub returns-in_default : goal.returns-in_default
 returns-in_default c =

@@ -22,9 +22,9 @@ overflow_sub-q c = tops_fit _ _ _ _ c.tops-t.ensures c.if-t-lt1.false
 pub place_bare-requires : goal.place_bare-requires
 place_bare-requires c = busy_lower 1 c.requires refl
 
-pub returns-in-No : goal.returns-in-No
-returns-in-No c = λ code. flat_undone _ (omega arith)
+pub returns-in_default : goal.returns-in_default
+returns-in_default c = λ code. flat_undone _ (omega arith)
 
-pub returns-else-n-ne0 : goal.returns-else-n-ne0
-returns-else-n-ne0 c =
-    λ code. mark_flat code _ _ _ c.requires c.tops-t.ensures c.if-t-lt1.false _ c.value_of.ensures _ c.cardinal.ensures.0 c.in-Is.is (omega (arith, c.if-n-ne0.false)) c.if-r-clear.false refl c.place_bare.ensures c.height_of.ensures
+pub returns : goal.returns
+returns c =
+    λ code. mark_flat code _ _ _ c.requires c.tops-t.ensures c.if-t-lt1.false _ c.value_of.ensures _ c.cardinal.ensures.0 c.in-Some.is (omega (arith, c.if-n-ne0.false)) c.if-r-clear.false refl c.place_bare.ensures c.height_of.ensures

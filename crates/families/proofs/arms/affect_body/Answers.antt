@@ -1,25 +1,23 @@
 -- `arms::affect_body` meets its contract. Assumes nothing.
-use borrow.Author.Rules.{rules}
-use Rattle.effects.proofs.Acting.{sized_inline, sized_acts, nothing_done, at_nothing, is_acts, is_told, by_inline, by_works}
+use mathlib.Core.Path.{◌≡◌, ap, ◌∙◌}
+use Rattle.std.specs.Prelude.{Some}
+use Rattle.machine.specs.declared.Effect.TheVariants.{Acts}
+use Rattle.machine.specs.declared.Next.TheVariants.{Works, Inline}
+use Rattle.machine.specs.declared.Work.TheVariants.{Nothing}
+use Rattle.effects.proofs.Acting.{is_acts, by_inline, by_works, nothing_done}
 use Rattle.families.proofs.arms.affect_body.Goals as goal
 
-pub inline-requires : goal.inline-requires
-inline-requires c = (search rules, search rules, search (rules, sized_inline, sized_acts))
+pub returns-in-Some-Acts-Inline : goal.returns-in-Some-Acts-Inline
+returns-in-Some-Acts-Inline c =
+    let i = c.in-Some-Acts-Inline.is in
+    let j : c.in-Some-Acts-Inline.field-0 ≡ Acts c.in-Some-Acts-Inline.field-0-0 = rw i at c.in-Some-Acts-Inline.field-0-is in
+    let k : c.in-Some-Acts-Inline.field-0-0 ≡ Inline c.in-Some-Acts-Inline.start c.in-Some-Acts-Inline.len c.in-Some-Acts-Inline.owes = rw (i, j) at c.in-Some-Acts-Inline.field-0-0-is in
+    is_acts _ _ _ (i ∙ ap Some j) (by_inline _ _ _ _ _ k c.inline.ensures)
 
-pub affect-requires : goal.affect-requires
-affect-requires c = (search rules, search rules, search (rules, sized_acts))
-
-pub affect-requires-in_default-x : goal.affect-requires-in_default-x
-affect-requires-in_default-x c = (search rules, search rules, search (rules, sized_acts))
-
-pub returns-in-Inline : goal.returns-in-Inline
-returns-in-Inline c = search (rules, is_acts, by_inline)
-
-pub returns-in-Nothing : goal.returns-in-Nothing
-returns-in-Nothing c = search (rules, is_acts, by_works, at_nothing, nothing_done)
-
-pub returns-in_default-k : goal.returns-in_default-k
-returns-in_default-k c = is_told _ _ _ c.in-Acts.is c.affect.ensures
-
-pub returns-in_default-x : goal.returns-in_default-x
-returns-in_default-x c = is_told _ _ _ c.in-Acts.is c.affect-in_default-x.ensures
+pub returns-in-Some-Acts-Works-Nothing : goal.returns-in-Some-Acts-Works-Nothing
+returns-in-Some-Acts-Works-Nothing c =
+    let i = c.in-Some-Acts-Works-Nothing.is in
+    let j : c.in-Some-Acts-Works-Nothing.field-0 ≡ Acts c.in-Some-Acts-Works-Nothing.field-0-0 = rw i at c.in-Some-Acts-Works-Nothing.field-0-is in
+    let k : c.in-Some-Acts-Works-Nothing.field-0-0 ≡ Works c.in-Some-Acts-Works-Nothing.field-0-0-0 = rw (i, j) at c.in-Some-Acts-Works-Nothing.field-0-0-is in
+    let l : c.in-Some-Acts-Works-Nothing.field-0-0-0 ≡ Nothing = rw (i, j, k) at c.in-Some-Acts-Works-Nothing.field-0-0-0-is in
+    is_acts _ _ _ (i ∙ ap Some j) (by_works _ _ _ (k ∙ ap Works l) (nothing_done _ c.requires.0 c.done.ensures))

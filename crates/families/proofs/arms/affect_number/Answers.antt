@@ -3,5 +3,5 @@ use borrow.Author.Rules.{rules}
 use Rattle.effects.proofs.Acting.{is_gives}
 use Rattle.families.proofs.arms.affect_number.Goals as goal
 
-pub returns-in-Gives : goal.returns-in-Gives
-returns-in-Gives c = search (rules, is_gives)
+pub returns-in-Some-Gives : goal.returns-in-Some-Gives
+returns-in-Some-Gives c = search (rules, is_gives)

@@ -1,15 +1,13 @@
 -- `call::effect` meets its contract. Assumes nothing.
+use mathlib.Core.Logic.{inl, inr}
 use Rattle.machine.specs.Ops.Call.{call_effect}
 use Rattle.operators.proofs.call.effect.Goals as goal
 
-pub returns-in-Do : goal.returns-in-Do
+pub returns : goal.returns
 unfolding call_effect
-returns-in-Do c = rw c.in-Do.is c.called.ensures
-
-pub returns-in-DoSave : goal.returns-in-DoSave
-unfolding call_effect
-returns-in-DoSave c = rw c.in-DoSave.is c.called-in-DoSave.ensures
-
-pub returns-in-DoSaveAll : goal.returns-in-DoSaveAll
-unfolding call_effect
-returns-in-DoSaveAll c = rw c.in-DoSaveAll.is c.called-in-DoSaveAll.ensures
+returns c =
+    elim c.in-Do.is [
+      | inl e ↦ rw e c.called.ensures
+      | inr (inl e) ↦ rw e c.called.ensures
+      | inr (inr e) ↦ rw e c.called.ensures
+    ]

@@ -1,21 +1,21 @@
 -- `test::ge` meets its contract. Assumes nothing.
 use mathlib.Core.Path.{ap, ◌∙◌}
-use Rattle.machine.specs.Ops.Test.{test_effect, compared}
 use mathlib.Core.Bool.{Bool, not}
-use Rattle.operands.proofs.Reading.{no_figure, is_figure}
 use Rattle.machine.specs.Operand.{whether}
+use Rattle.machine.specs.Ops.Test.{compared, test_effect}
+use Rattle.operands.proofs.Reading.{nothing, no_figure, is_figure}
 use Rattle.operators.proofs.test.ge.Goals as goal
 
-pub returns-in-Other : goal.returns-in-Other
+pub returns-in_err-a : goal.returns-in_err-a
 unfolding test_effect compared
-returns-in-Other c = (no_figure _ _ c.figure.ensures c.in-Other.is, tt)
+returns-in_err-a c = nothing c.from_residual.ensures (no_figure _ _ c.figure.ensures c.in_err-a.was)
 
-pub returns-in-Other-figure : goal.returns-in-Other-figure
+pub returns-in_err-b : goal.returns-in_err-b
 unfolding test_effect compared
-returns-in-Other-figure c =
-    (no_figure _ _ c.figure-in-Of.ensures c.in-Other-figure.is ∙ is_figure _ _ c.figure.ensures c.in-Of.is, tt)
+returns-in_err-b c =
+    nothing c.from_residual-in_err-b.ensures (no_figure _ _ c.figure-2.ensures c.in_err-b.was ∙ is_figure _ _ c.figure.ensures c.in_ok-a.was)
 
-pub returns-in-Of-figure : goal.returns-in-Of-figure
+pub returns : goal.returns
 unfolding test_effect compared
-returns-in-Of-figure c =
-    (c.whether.ensures.0 ∙ ap (λ (b : Bool). whether (not b)) c.is_less.ensures ∙ is_figure _ _ c.figure-in-Of.ensures c.in-Of-figure.is ∙ is_figure _ _ c.figure.ensures c.in-Of.is, c.whether.ensures.1)
+returns c =
+    (c.whether.ensures.0 ∙ ap (λ (b : Bool). whether (not b)) c.is_less.ensures ∙ is_figure _ _ c.figure-2.ensures c.in_ok-b.was ∙ is_figure _ _ c.figure.ensures c.in_ok-a.was, c.whether.ensures.1)

@@ -1,25 +1,26 @@
 -- `test::or` meets its contract. Assumes nothing.
-use mathlib.Core.Path.{◌∙◌}
-use Rattle.machine.specs.Ops.Test.{test_effect, joined}
-use Rattle.operators.proofs.Testing.{or_off, or_on}
-use Rattle.operands.proofs.Reading.{no_card, is_card}
+use mathlib.Core.Path.{ap, ◌∙◌}
+use Rattle.machine.specs.Ops.Test.{joined, test_effect}
+use Rattle.operands.proofs.Reading.{nothing, no_card, is_card}
+use Rattle.machine.specs.Operand.{whether}
+use Rattle.operators.proofs.Testing.{or_on, or_off}
 use Rattle.operators.proofs.test.or.Goals as goal
+use Rattle.operators.proofs.test.or.Goals.{then-a-ne0, else-a-ne0}
 
-pub returns-then-a-eq0 : goal.returns-then-a-eq0
+pub returns-in_err-a : goal.returns-in_err-a
 unfolding test_effect joined
-returns-then-a-eq0 c =
-    (c.whether.ensures.0 ∙ or_off c.in-Is.a c.in-Is-cardinal.b c.if-a-eq0.true ∙ is_card _ _ c.cardinal-in-Is.ensures.0 c.in-Is-cardinal.is ∙ is_card _ _ c.cardinal.ensures.0 c.in-Is.is, c.whether.ensures.1)
+returns-in_err-a c = nothing c.from_residual.ensures (no_card _ _ c.cardinal.ensures.0 c.in_err-a.was)
 
-pub returns-in-No : goal.returns-in-No
+pub returns-in_err-b : goal.returns-in_err-b
 unfolding test_effect joined
-returns-in-No c = (no_card _ _ c.cardinal.ensures.0 c.in-No.is, tt)
+returns-in_err-b c =
+    nothing c.from_residual-in_err-b.ensures (no_card _ _ c.cardinal-2.ensures.0 c.in_err-b.was ∙ is_card _ _ c.cardinal.ensures.0 c.in_ok-a.was)
 
-pub returns-in-No-cardinal : goal.returns-in-No-cardinal
+pub returns : goal.returns
 unfolding test_effect joined
-returns-in-No-cardinal c =
-    (no_card _ _ c.cardinal-in-Is.ensures.0 c.in-No-cardinal.is ∙ is_card _ _ c.cardinal.ensures.0 c.in-Is.is, tt)
-
-pub returns-else-a-eq0 : goal.returns-else-a-eq0
-unfolding test_effect joined
-returns-else-a-eq0 c =
-    (c.whether-in-Is-cardinal.ensures.0 ∙ or_on c.in-Is.a c.in-Is-cardinal.b c.if-a-eq0.false ∙ is_card _ _ c.cardinal-in-Is.ensures.0 c.in-Is-cardinal.is ∙ is_card _ _ c.cardinal.ensures.0 c.in-Is.is, c.whether-in-Is-cardinal.ensures.1)
+returns c =
+    let e = is_card _ _ c.cardinal-2.ensures.0 c.in_ok-b.was ∙ is_card _ _ c.cardinal.ensures.0 c.in_ok-a.was in
+    elim c.if-a-ne0.branch [
+      | then-a-ne0 w ↦ (c.whether.ensures.0 ∙ ap whether w.whether-is ∙ or_on _ _ w.if-a-ne0.true ∙ e, c.whether.ensures.1)
+      | else-a-ne0 w ↦ (c.whether.ensures.0 ∙ ap whether w.whether-is ∙ or_off _ _ w.if-a-ne0.false ∙ e, c.whether.ensures.1)
+    ]

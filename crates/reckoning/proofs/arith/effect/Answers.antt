@@ -1,20 +1,21 @@
 -- `arith::effect` meets its contract. Assumes nothing.
 use mathlib.Core.Path.{sym, ap, ◌∙◌}
-use Rattle.reckoning.proofs.Reckoned.{reckon_none, reckon_one, reckon_below, reckon_two}
 use Rattle.machine.specs.Operand.{answered}
+use Rattle.operands.proofs.Reading.{nothing}
+use Rattle.reckoning.proofs.Reckoned.{reckon_none, reckon_one, reckon_below, reckon_two}
 use Rattle.reckoning.proofs.arith.effect.Goals as goal
+
+pub returns-in_err-b : goal.returns-in_err-b
+returns-in_err-b c = nothing c.from_residual.ensures (reckon_none _ _ _ c.figure.ensures c.in_err-b.was)
 
 pub returns-then-arity-eq1 : goal.returns-then-arity-eq1
 returns-then-arity-eq1 c =
-    (c.answered.ensures.0 ∙ ap answered c.reckon.ensures ∙ reckon_one _ _ _ c.figure.ensures _ c.in-Of.is (sym c.arity.ensures.0 ∙ c.if-arity-eq1.true), c.answered.ensures.1)
+    (c.answered.ensures.0 ∙ ap answered c.reckon.ensures ∙ reckon_one _ _ _ c.figure.ensures _ c.in_ok-b.was (sym c.arity.ensures.0 ∙ c.if-arity-eq1.true), c.answered.ensures.1)
 
-pub returns-in-Other : goal.returns-in-Other
-returns-in-Other c = (reckon_none _ _ _ c.figure.ensures c.in-Other.is, tt)
+pub returns-in_err-a : goal.returns-in_err-a
+returns-in_err-a c =
+    nothing c.from_residual-in_err-a.ensures (reckon_below _ _ _ c.figure.ensures _ c.in_ok-b.was (λ e. c.if-arity-eq1.false (c.arity.ensures.0 ∙ e)) c.figure-2.ensures c.in_err-a.was)
 
-pub returns-in-Other-figure : goal.returns-in-Other-figure
-returns-in-Other-figure c =
-    (reckon_below _ _ _ c.figure.ensures _ c.in-Of.is (λ e. c.if-arity-eq1.false (c.arity.ensures.0 ∙ e)) c.figure-in-Of.ensures c.in-Other-figure.is, tt)
-
-pub returns-in-Of-figure : goal.returns-in-Of-figure
-returns-in-Of-figure c =
-    (c.answered-in-Of-figure.ensures.0 ∙ ap answered c.reckon-in-Of-figure.ensures ∙ reckon_two _ _ _ c.figure.ensures _ c.in-Of.is (λ e. c.if-arity-eq1.false (c.arity.ensures.0 ∙ e)) c.figure-in-Of.ensures _ c.in-Of-figure.is, c.answered-in-Of-figure.ensures.1)
+pub returns : goal.returns
+returns c =
+    (c.answered-2.ensures.0 ∙ ap answered c.reckon-2.ensures ∙ reckon_two _ _ _ c.figure.ensures _ c.in_ok-b.was (λ e. c.if-arity-eq1.false (c.arity.ensures.0 ∙ e)) c.figure-2.ensures _ c.in_ok-a.was, c.answered-2.ensures.1)
