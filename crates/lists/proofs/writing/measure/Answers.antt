@@ -40,8 +40,13 @@ loop-at-preserved c =
     c.cap-total.ensures
 
 -- the last item is judged, and no place is left
-pub returns-then-at-list : goal.returns-then-at-list
-returns-then-at-list c = ?
+pub returns-in-Some : goal.returns-in-Some
+returns-in-Some c =
+    let a = c.args in
+    let o = c.loop-at in
+    let j = judged (goal.at.returns-in-Some c).In-Some in
+    measuring_end a.list.now a.text.now (o.at + 16) c.cap-total.result
+    (measuring_on a.list.now a.text.now o.at o.total o.invariant (omega arith) _ j _ c.size_of.ensures.0 _ c.cap-total.ensures) (omega arith)
 
 pub returns : goal.returns
 returns c =
