@@ -10,6 +10,7 @@ use borrow.Author.Tests.{le-leb, lt-leb}
 use lib.Dec.{leb}
 use lib.ListN.{length, get_or, set, length-set}
 use lib.Seq.{get_or-set_same, set-set, set-get_or}
+use Rattle.std.specs.Prelude.{Some, None}
 use Rattle.table.specs.declared.Slot.{Slot}
 use Rattle.table.specs.Slots.{nil, mk, slots, desc}
 use Rattle.table.proofs.Moves.{Same, same_set}
@@ -18,19 +19,19 @@ use Rattle.machine.specs.Contexts.{at_end, leave_at, leave, settle}
 use Rattle.machine.specs.Engine.{fits, limited, with_contexts, enter}
 use Rattle.machine.specs.Step.{begun_in, begun}
 use Rattle.state.specs.declared.Registers.{Registers}
-use Rattle.state.specs.Layout.{stack_of, values_at, frame_at, frame_of, context_in, context_at, contexts_of, aside, abs, lent_by, lent, Good, Busy, Tried, goes_to, Begun}
+use Rattle.state.specs.Layout.{stack_of, values_at, frame_at, frame_of, context_in, context_at, contexts_of, aside, abs, lent_by, lent, Good, Busy, Perhaps, Tried, goes_to, Begun}
 use Rattle.state.specs.Operations.{entered, enter_on, inline, call, opening, Opened}
 use Rattle.state.proofs.Parts.{wide, room_of_lem, stack_same, values_same, Lies, lent_lies, lies_lent, lies_up, frame_same, lent_same, lent_none, lent_top, lent_more, lent_renew, contexts_same, aside_same, length_stack, length_contexts, contexts_at}
 use Rattle.state.proofs.Ending.{state_path}
 use Rattle.state.proofs.Cutting.{values_part, contexts_renew}
-use Rattle.state.proofs.Trying.{trying, failed, tried_no, tried_yes, tried_as, fits_abs}
+use Rattle.state.proofs.Trying.{trying, tried_no, tried_yes, tried_as, fits_abs}
 
 -- ---- a body entered on the frame that a word says
 
 module _ {w : List ℕ} {r : Registers} (origin at end word : ℕ) (g : Busy w r) where
-  pub enter_full : {r' : Registers} → 12 ≤ r.depth → r' ≡ failed r → Tried (enter_on (slots w) origin at end word) w r w r'
+  pub enter_full : {r' : Perhaps} → 12 ≤ r.depth → r' ≡ None → Tried (enter_on (slots w) origin at end word) w r w r'
   unfolding enter_on enter limited fits
-  enter_full {r'} h q = tried_no g (rw (length_stack, le-leb r.height 128 g.stack_fits, length_contexts, lt-leb (suc r.depth) 12 (omega arith))) q
+  enter_full {r'} h q = tried_no (rw (length_stack, le-leb r.height 128 g.stack_fits, length_contexts, lt-leb (suc r.depth) 12 (omega arith))) q
 
   module _ (takes : r.depth < 12 → lent_by r.depth (word % 4096) ≤ r.used) (h : r.depth < 12) where
     new : Context
@@ -55,7 +56,7 @@ module _ {w : List ℕ} {r : Registers} (origin at end word : ℕ) (g : Busy w r
           contexts_same put (slots w) d r.used (omega (arith, lent_same put (slots w) d (under 1752 _ (omega arith)))) g.cells_fit (under 128 _ (omega arith)) (under 728 _ (omega (arith, g.cells_fit))) (under 1752 _ (omega arith)),
         )
 
-    pub enter_made : {w' : List ℕ} {r' : Registers} (id : ℕ) → id ≡ r.steps → slots w' ≡ set (slots w) (1752 + r.depth) (mk id origin at end word) → r' ≡ trying r r.height (r.depth + 1) r.used true
+    pub enter_made : {w' : List ℕ} {r' : Perhaps} (id : ℕ) → id ≡ r.steps → slots w' ≡ set (slots w) (1752 + r.depth) (mk id origin at end word) → r' ≡ Some (trying r r.height (r.depth + 1) r.used)
         → Tried (enter_on (slots w) origin at end word) w r w' r'
     unfolding enter_on enter new
     enter_made {w'} {r'} id ei pi q =
@@ -64,14 +65,14 @@ module _ {w : List ℕ} {r : Registers} (origin at end word : ℕ) (g : Busy w r
         let p : slots w' ≡ put = rw ei at pi in
         let big : 2400 ≤ length put = rw length-set (wide w g.room) in
         let rm = room_of_lem w' put p big in
-        let r₁ = trying r r.height (d + 1) r.used true in
+        let r₁ = trying r r.height (d + 1) r.used in
         let one : d + 1 ≡ suc d = add-one d in
         let fr : lent (slots w') (d + 1) ≤ r.used = rw (p, one) (lent_more m put d r.used g.frames_fit (under 1752 _ (omega arith)) (rw there (takes h))) in
         let e : abs w' r₁ ≡ with_contexts (new ∷ contexts_of m d) (abs w r) =
         state_path (rw p (stack_same put m r.height (under 0 _ (omega arith)))) (rw (p, one) contexts_put) (rw p (values_same put m 128 50 (under 128 _ (omega arith))))
         (rw p (values_same put m 728 r.used (under 728 _ (omega (arith, g.cells_fit))))) in
         let kp : aside w' ≡ aside w = aside_same w' w (rw p (same_set m (1752 + d) (mk r.steps origin at end word) 1764 1814 (inl (omega arith)))) in
-        rw q (tried_yes (omega arith) kp refl refl (rw (← e) (fits_abs w' r₁ g.stack_fits (omega arith) g.cells_fit)))
+        rw q (tried_yes (omega arith) kp refl (rw (← e) (fits_abs w' r₁ g.stack_fits (omega arith) g.cells_fit)))
 
 -- ---- where the running body goes on
 
@@ -90,7 +91,7 @@ module _ {w : List ℕ} {r : Registers} (at end word : ℕ) (owes : Bool) (c : S
       let lies : Lies (d - 1) k r.used = lent_lies (d - 1) k r.used (rw got (lent_top (slots w) d r.used g.runs g.frames_fit)) g.cells_fit in
       rw told.0 (lies_lent d k r.used (rw one at (lies_up (d - 1) k r.used lies)))
 
-  pub inline_on : {w' : List ℕ} {r' : Registers} → Tried (enter_on (slots w) c.a at end word) w r w' r' → Tried (inline at end owes) w r w' r'
+  pub inline_on : {w' : List ℕ} {r' : Perhaps} → Tried (enter_on (slots w) c.a at end word) w r w' r' → Tried (inline at end owes) w r w' r'
   unfolding inline enter_on running context_in
   inline_on t = tried_as (rw (contexts_at (slots w) r.depth c g.runs got, told.0, told.1)) t
 
@@ -100,7 +101,7 @@ module _ {w : List ℕ} {r : Registers} (origin at end first k word : ℕ) (g : 
   pub call_takes : r.depth < 12 → lent_by r.depth (word % 4096) ≤ r.used
   call_takes _ = rw (told.0, ek) (lies_lent r.depth (600 + first) r.used (inr (inr (omega (arith, g.runs), (omega arith, omega arith)))))
 
-  pub call_on : {w' : List ℕ} {r' : Registers} → Tried (enter_on (slots w) origin at end word) w r w' r' → Tried (call origin at end first) w r w' r'
+  pub call_on : {w' : List ℕ} {r' : Perhaps} → Tried (enter_on (slots w) origin at end word) w r w' r' → Tried (call origin at end first) w r w' r'
   unfolding call enter_on
   call_on t = let z : 728 + first ≡ 128 + (600 + first) = omega arith in tried_as (rw (values_part (slots w) 728 first 50 r.used kept, told.0, told.1, ek, z)) t
 
@@ -122,13 +123,13 @@ module _ (w w' : List ℕ) (origin at end used : ℕ) (room : 48000 ≤ length w
   context_there : get_or (slots w') 1752 nil ≡ mk 0 origin at end 0
   context_there = rw p (get_or-set_same (slots w) 1752 (mk 0 origin at end 0) nil (omega (arith, wide w room)))
 
-  pub open_none : {r : Registers} → end ≤ at → r ≡ record { height = 0; depth = 0; used = used; steps = 0; errors = 0; skipping = false; ok = true } → Opened origin at end used w w' r
+  pub open_none : {r : Registers} → end ≤ at → r ≡ record { height = 0; depth = 0; used = used; steps = 0; errors = 0; skipping = false } → Opened origin at end used w w' r
   unfolding opening settle leave leave_at at_end contexts_of stack_of desc
   open_none {r} e q =
       let wd = room_there in
       rw q (record { good = omega (arith, lent_none (slots w') used); is = rw (le-leb end at e) (state_path refl refl frame_there cells_there); keeps = aside_there; counted = refl })
 
-  pub open_some : {r : Registers} → at < end → r ≡ record { height = 0; depth = 1; used = used; steps = 0; errors = 0; skipping = false; ok = true } → Opened origin at end used w w' r
+  pub open_some : {r : Registers} → at < end → r ≡ record { height = 0; depth = 1; used = used; steps = 0; errors = 0; skipping = false } → Opened origin at end used w w' r
   unfolding opening settle leave leave_at at_end contexts_of context_at context_in stack_of desc
   open_some {r} e q =
       let wd = room_there in
@@ -142,7 +143,7 @@ unfolding goes_to
 goes_is m m' depth next c e p = rw e at p
 
 pub begin_done : {w w' : List ℕ} {r r' : Registers} (next : ℕ) → Good w r → 0 < r.depth → r.steps < 4294967295 → slots w' ≡ goes_to (slots w) r.depth next
-    → r' ≡ record { height = r.height; depth = r.depth; used = r.used; steps = r.steps + 1; errors = r.errors; skipping = r.skipping; ok = r.ok } → Begun next w r w' r'
+    → r' ≡ record { height = r.height; depth = r.depth; used = r.used; steps = r.steps + 1; errors = r.errors; skipping = r.skipping } → Begun next w r w' r'
 unfolding begun begun_in context_at context_in goes_to
 begin_done {w} {w'} {r} {r'} next g d0 sl p q =
     let m = slots w in

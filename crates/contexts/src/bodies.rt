@@ -34,9 +34,10 @@ pub fn begin(w: &mut [u8], r: Registers, next: u32) -> Registers
     ensures { Begun next w.old r w.new result }
 {
     go_to(w, r.depth, next);
-    let mut q = r;
-    q.steps = r.steps + 1;
-    q
+    Registers {
+        steps: r.steps + 1,
+        ..r
+    }
 }
 
 // Where the running body goes on.
@@ -52,13 +53,13 @@ pub fn running(w: &[u8], depth: usize) -> Place
 }
 
 // A body entered from `at` to `end`, with the last word of its context, which says where its frame lies.
-fn enter_on(w: &mut [u8], r: Registers, origin: u32, at: u32, end: u32, word: u32) -> Registers
+fn enter_on(w: &mut [u8], r: Registers, origin: u32, at: u32, end: u32, word: u32) -> Option<Registers>
     requires { Busy w.old r × (r.depth < 12 → lent_by r.depth (word % 4096) ≤ r.used) }
     ensures { Tried (enter_on (slots w.old) origin at end word) w.old r w.new result }
 {
     let d = r.depth;
     if d >= 12 {
-        return state::stack::failed(r);
+        return None;
     }
     table::slots::put(
         w,
@@ -71,14 +72,11 @@ fn enter_on(w: &mut [u8], r: Registers, origin: u32, at: u32, end: u32, word: u3
             d: word,
         },
     );
-    let mut q = r;
-    q.depth = d + 1;
-    q.ok = true;
-    q
+    Some(Registers { depth: d + 1, ..r })
 }
 
 // A body entered on the running frame.
-pub fn inline(w: &mut [u8], r: Registers, at: u32, end: u32, owes: bool) -> Registers
+pub fn inline(w: &mut [u8], r: Registers, at: u32, end: u32, owes: bool) -> Option<Registers>
     requires { Busy w.old r }
     ensures { Tried (inline at end owes) w.old r w.new result }
 {
@@ -87,7 +85,7 @@ pub fn inline(w: &mut [u8], r: Registers, at: u32, end: u32, owes: bool) -> Regi
 }
 
 // A body entered on the frame that stands in the cells from `first` on.
-pub fn call(w: &mut [u8], r: Registers, origin: u32, at: u32, end: u32, first: usize) -> Registers
+pub fn call(w: &mut [u8], r: Registers, origin: u32, at: u32, end: u32, first: usize) -> Option<Registers>
     requires { Busy w.old r × (first + 50 ≤ r.used) }
     ensures { Tried (call origin at end first) w.old r w.new result }
 {
@@ -119,7 +117,6 @@ pub fn open(w: &mut [u8], origin: u32, at: u32, end: u32, used: usize) -> Regist
             steps: 0,
             errors: 0,
             skipping: false,
-            ok: true,
         };
     }
     Registers {
@@ -129,6 +126,5 @@ pub fn open(w: &mut [u8], origin: u32, at: u32, end: u32, used: usize) -> Regist
         steps: 0,
         errors: 0,
         skipping: false,
-        ok: true,
     }
 }

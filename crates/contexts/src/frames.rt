@@ -9,7 +9,7 @@ use state::Registers;
 use table::Slot;
 
 // FGET: the element j of the running frame is pushed.
-pub fn fetch(w: &mut [u8], r: Registers, j: usize) -> Registers
+pub fn fetch(w: &mut [u8], r: Registers, j: usize) -> Option<Registers>
     requires { Busy w.old r }
     ensures { Tried (fetch j) w.old r w.new result }
 {
@@ -61,27 +61,28 @@ fn own(w: &mut [u8], r: Registers)
 }
 
 // FSET: the topmost value goes into the element j of the running frame.
-pub fn store(w: &mut [u8], r: Registers, j: usize) -> Registers
+pub fn store(w: &mut [u8], r: Registers, j: usize) -> Option<Registers>
     requires { Busy w.old r }
     ensures { Tried (store j) w.old r w.new result }
 {
     let height = r.height;
     if height == 0 {
-        return state::stack::failed(r);
+        return None;
     }
     let v = table::slots::get(w, height - 1);
     if v.kind == 5 {
-        return state::stack::failed(r);
+        return None;
     }
-    let mut q = r;
-    q.height = height - 1;
-    q.ok = true;
+    let popped = Registers {
+        height: height - 1,
+        ..r
+    };
     if j >= 50 {
-        return q;
+        return Some(popped);
     }
     own(w, r);
     table::slots::put(w, 128 + 50 * (r.depth - 1) + j, v);
-    q
+    Some(popped)
 }
 
 // The n slots from b on are 0.

@@ -58,7 +58,7 @@ pub bit_is : (b : Bool) {n : ℕ} {a : num.Number} → n ≡ bool_byte b → a �
 bit_is true e h = rw (h, e)
 bit_is false e h = rw (h, e)
 
-pub matched : {w w' : List ℕ} {r r' : Registers} (pre body : List ℕ) (v u : Value) (p q : at.Place) (b : Bool) (a : num.Number)
+pub matched : {w w' : List ℕ} {r : Registers} {r' : Perhaps} (pre body : List ℕ) (v u : Value) (p q : at.Place) (b : Bool) (a : num.Number)
     → ((x y : List ℕ) → lowered (data_at (both x y) p.origin p.start) ≡ text_of (both x y) v) → ((x y : List ℕ) → lowered (data_at (both x y) q.origin q.start) ≡ text_of (both x y) u)
     → b ≡ same_text (both pre body) p.origin p.start q.origin q.start → a ≡ cond b (natural 1) (natural 0) → Tried (push (Number a)) w r w' r' → Tried (worked (both pre body) (Match v u)) w r w' r'
 unfolding worked bit
@@ -73,26 +73,26 @@ no_elements (Identifier o s l) cells n = refl
 no_elements (Vector f l c) cells n = absurd (n f l c refl)
 no_elements (Operator o s l f) cells n = refl
 
-pub nothing_done : {w : List ℕ} {r r' : Registers} (code : Code) → Busy w r → r' ≡ trying r r.height r.depth r.used true → Tried (worked code Nothing) w r w r'
+pub nothing_done : {w : List ℕ} {r : Registers} {r' : Perhaps} (code : Code) → Busy w r → r' ≡ Some (trying r r.height r.depth r.used) → Tried (worked code Nothing) w r w r'
 unfolding worked
 nothing_done {w} {r} {r'} code g q = rw q (tried_yes (omega arith) refl refl refl (fits_abs w r g.stack_fits g.depth_fits g.cells_fit))
 
 module _ {w : List ℕ} {r r' : Registers} (v : Value) (g : Busy w r) where
   module _ (f l c : ℕ) (i : v ≡ Vector f l c) (f' c' : ℕ) (ef : f' ≡ f) (ec : c' ≡ c) (b : Bool) (e : b ≡ all_cardinals (take c' (drop f' (values_at (slots w) 728 r.used)))) where
-    pub report_all : b ≡ true → r' ≡ trying r r.height r.depth r.used true → (code : Code) → Tried (worked code (Report v)) w r w r'
+    pub report_all : b ≡ true → r' ≡ Some (trying r r.height r.depth r.used) → (code : Code) → Tried (worked code (Report v)) w r w r'
     unfolding worked provided elements_of
     report_all h q code =
         rw q (tried_yes (omega arith) refl refl refl (rw (i, ← ef, ← ec, ← e, h) (fits_abs w r g.stack_fits g.depth_fits g.cells_fit)))
 
-    pub report_other : b ≡ false → r' ≡ failed r → (code : Code) → Tried (worked code (Report v)) w r w r'
+    pub report_other : b ≡ false → r' ≡ None → (code : Code) → Tried (worked code (Report v)) w r w r'
     unfolding worked provided elements_of
-    report_other h q code = tried_no g (rw (i, ← ef, ← ec, ← e, h)) q
+    report_other h q code = tried_no (rw (i, ← ef, ← ec, ← e, h)) q
 
-  none_there : (code : Code) → elements_of v (values_at (slots w) 728 r.used) ≡ [] → r' ≡ trying r r.height r.depth r.used true → Tried (worked code (Report v)) w r w r'
+  none_there : (code : Code) → elements_of v (values_at (slots w) 728 r.used) ≡ [] → r' ≡ Some (trying r r.height r.depth r.used) → Tried (worked code (Report v)) w r w r'
   unfolding worked provided all_cardinals
   none_there code e q = rw q (tried_yes (omega arith) refl refl refl (rw e (fits_abs w r g.stack_fits g.depth_fits g.cells_fit)))
 
-  pub report_none : NoVector v → r' ≡ trying r r.height r.depth r.used true → (code : Code) → Tried (worked code (Report v)) w r w r'
+  pub report_none : NoVector v → r' ≡ Some (trying r r.height r.depth r.used) → (code : Code) → Tried (worked code (Report v)) w r w r'
   report_none n q code = none_there code (no_elements v _ n) q
 
 -- ---- what fits
@@ -187,9 +187,9 @@ module _ {w w' : List ℕ} {r r' : Registers} (code : Code) (x : Next) where
 -- ---- an effect
 
 module _ {w : List ℕ} {r : Registers} (code : Code) (e : Option Effect) where
-  pub is_fail : {r' : Registers} → Busy w r → e ≡ None → r' ≡ failed r → Tried (affected code e) w r w r'
+  pub is_fail : {r' : Perhaps} → Busy w r → e ≡ None → r' ≡ None → Tried (affected code e) w r w r'
   unfolding affected
-  is_fail {r'} g i q = tried_no g (rw i) q
+  is_fail {r'} g i q = tried_no (rw i) q
 
   module _ {w' : List ℕ} {r' : Registers} where
     pub is_gives : (a : num.Number) → e ≡ Some (Gives a) → Tried (push (Number a)) w r w' r' → Tried (affected code e) w r w' r'

@@ -49,11 +49,11 @@ unfolding value_in
 small_value x v e = rw e (small v (eqb v.kind 2) (eqb v.kind 3) (eqb v.kind 4))
 
 module _ {w : List ℕ} {r : Registers} (code : Code) (x : Literal) (a : ℕ) (t : Tops) (g : Busy w r) (two : a ≤ 2) (ea : a ≡ popped x) (et : Topmost (above (stack_of (slots w) r.height)) t) where
-  exec_few : {r' : Registers} → t.count < a → r' ≡ failed r → Tried (execute code x) w r w r'
+  exec_few : {r' : Perhaps} → t.count < a → r' ≡ None → Tried (execute code x) w r w r'
   unfolding execute provided
   exec_few {r'} h q =
       let c = et.count in
-      tried_no g (rw (← ea, lt-leb a (length (above (stack_of (slots w) r.height))) (fewer (above (stack_of (slots w) r.height)) a two (omega arith)))) q
+      tried_no (rw (← ea, lt-leb a (length (above (stack_of (slots w) r.height))) (fewer (above (stack_of (slots w) r.height)) a two (omega arith)))) q
 
   exec_done : {w' : List ℕ} {q r' : Registers} (e : Option Effect) → a ≤ t.count → e ≡ effect_at x (abs w r) → q ≡ trying r (r.height - a) r.depth r.used r.ok → Tried (affected code e) w q w' r' → Tried (execute code x) w r w' r'
   unfolding execute provided
@@ -75,7 +75,7 @@ module _ {w : List ℕ} {r : Registers} (code : Code) (n a : ℕ) (o : Op) (t : 
   unfolding popped
   pops_plain = rw (← eo) ea.0
 
-  pub plain_few : {r' : Registers} → t.count < a → r' ≡ failed r → Tried (execute code (Plain n)) w r w r'
+  pub plain_few : {r' : Perhaps} → t.count < a → r' ≡ None → Tried (execute code (Plain n)) w r w r'
   plain_few {r'} h q = exec_few code (Plain n) a t g ea.1 pops_plain et h q
 
   module _ (x y : Value) (e : Option Effect) (h : a ≤ t.count) (ex : x ≡ value_in t.first) (ey : y ≡ value_in t.second) (ee : e ≡ effect_of o x y) where
@@ -87,7 +87,7 @@ module _ {w : List ℕ} {r : Registers} (code : Code) (n a : ℕ) (o : Op) (t : 
       pub plain_done : Tried (execute code (Plain n)) w r w' r'
       plain_done = exec_done code (Plain n) a t g ea.1 pops_plain et e h plain_effect eq d
 
-  pub plain_fails : {r' : Registers} (x y : Value) → a ≤ t.count → x ≡ value_in t.first → y ≡ value_in t.second → None ≡ effect_of o x y → r' ≡ failed r → Tried (execute code (Plain n)) w r w r'
+  pub plain_fails : {r' : Perhaps} (x y : Value) → a ≤ t.count → x ≡ value_in t.first → y ≡ value_in t.second → None ≡ effect_of o x y → r' ≡ None → Tried (execute code (Plain n)) w r w r'
   unfolding answer
   plain_fails {r'} x y h ex ey ee q =
       let p = trying r (r.height - a) r.depth r.used r.ok in
@@ -101,7 +101,7 @@ module _ {w : List ℕ} {r : Registers} (code : Code) (n start len a : ℕ) (o :
   unfolding popped
   pops_holder = rw (← eo) ea.0
 
-  pub holder_few : {r' : Registers} → t.count < a → r' ≡ failed r → Tried (execute code (WithBody n start len)) w r w r'
+  pub holder_few : {r' : Perhaps} → t.count < a → r' ≡ None → Tried (execute code (WithBody n start len)) w r w r'
   holder_few {r'} h q = exec_few code (WithBody n start len) a t g ea.1 pops_holder et h q
 
   pub holder_done : {w' : List ℕ} {q r' : Registers} (x : Value) (e : Option Effect) → a ≤ t.count → x ≡ value_in t.first → e ≡ body_effect o start len x → q ≡ trying r (r.height - a) r.depth r.used r.ok

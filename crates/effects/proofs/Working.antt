@@ -77,10 +77,10 @@ module _ {w : List ℕ} {r : Registers} (code : Code) (origin start len first : 
   unfolding kept
   kept_is = (rw length_values) ∙ sym h.there
 
-  pub call_none : {r' : Registers} → k ≡ None → r' ≡ failed r → Tried (call code origin start len first) w r w r'
+  pub call_none : {r' : Perhaps} → k ≡ None → r' ≡ None → Tried (call code origin start len first) w r w r'
   unfolding call provided
-  call_none {r'} t q = tried_no g (rw (kept_is, t)) q
+  call_none {r'} t q = tried_no (rw (kept_is, t)) q
 
-  pub call_made : {w' : List ℕ} {r' : Registers} (f : ℕ) (c : Callee) → k ≡ Some c → f ≡ first → Tried (table.call origin c.at c.end f) w r w' r' → Tried (call code origin start len first) w r w' r'
+  pub call_made : {w' : List ℕ} {r' : Perhaps} (f : ℕ) (c : Callee) → k ≡ Some c → f ≡ first → Tried (table.call origin c.at c.end f) w r w' r' → Tried (call code origin start len first) w r w' r'
   unfolding call provided context_of table.call
   call_made {w'} {r'} f c t ef d = tried_as (rw (kept_is, t, ← (h.at c t), ← (h.end c t), ← ef)) d

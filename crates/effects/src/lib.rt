@@ -23,7 +23,7 @@ pub fn spell<'a>(
     pre: &'a [u8],
     body: &'a [u8],
     start: usize,
-) -> Registers
+) -> Option<Registers>
     requires { Busy w.old r }
     ensures { Tried (spell (both pre.now body.now) start) w.old r w.new result }
 {
@@ -41,7 +41,7 @@ pub fn inline<'a>(
     start: u32,
     len: u32,
     owes: bool,
-) -> Registers
+) -> Option<Registers>
     requires { Busy w.old r × Short pre.now body.now × (start + len < 4294967296) }
     ensures { Tried (inline (both pre.now body.now) start len owes) w.old r w.new result }
 {
@@ -96,12 +96,12 @@ fn call<'a>(
     start: u32,
     len: u32,
     first: u32,
-) -> Registers
+) -> Option<Registers>
     requires { Busy w.old r × Short pre.now body.now }
     ensures { Tried (call (both pre.now body.now) origin start len first) w.old r w.new result }
 {
     let Some(k) = callee_of(r.used, pre, body, origin, start, len, first) else {
-        return state::stack::failed(r);
+        return None;
     };
     contexts::bodies::call(w, r, origin, k.at, k.end, table::words::size(first))
 }
@@ -127,7 +127,7 @@ fn matches<'a>(
     body: &'a [u8],
     v: machine::Value,
     u: machine::Value,
-) -> Registers
+) -> Option<Registers>
     requires { Busy w.old r }
     ensures { Tried (worked (both pre.now body.now) (Match v u)) w.old r w.new result }
 {
@@ -142,13 +142,11 @@ fn matches<'a>(
 pub fn done(r: Registers) -> Registers
     ensures { result ≡ record { height = r.height; depth = r.depth; used = r.used; steps = r.steps; errors = r.errors; skipping = r.skipping; ok = true } }
 {
-    let mut q = r;
-    q.ok = true;
-    q
+    Some(r)
 }
 
 // ERROR with a message, whose elements are Cardinals.
-fn report(w: &[u8], r: Registers, v: machine::Value) -> Registers
+fn report(w: &[u8], r: Registers, v: machine::Value) -> Option<Registers>
     requires { Busy w.now r }
     ensures { (code : Code) → Tried (worked code (Report v)) w.now r w.now result }
 {
@@ -164,11 +162,11 @@ fn report(w: &[u8], r: Registers, v: machine::Value) -> Registers
     if all {
         return done(r);
     }
-    state::stack::failed(r)
+    None
 }
 
 // What the engine does with the values above the topmost mark.
-fn work<'a>(w: &mut [u8], r: Registers, pre: &'a [u8], body: &'a [u8], x: Work) -> Registers
+fn work<'a>(w: &mut [u8], r: Registers, pre: &'a [u8], body: &'a [u8], x: Work) -> Option<Registers>
     requires { Busy w.old r × SizedWork x }
     ensures { Tried (worked (both pre.now body.now) x) w.old r w.new result }
 {
@@ -193,7 +191,7 @@ fn work<'a>(w: &mut [u8], r: Registers, pre: &'a [u8], body: &'a [u8], x: Work) 
 }
 
 // The engine's part of an operator.
-fn act<'a>(w: &mut [u8], r: Registers, pre: &'a [u8], body: &'a [u8], x: Next) -> Registers
+fn act<'a>(w: &mut [u8], r: Registers, pre: &'a [u8], body: &'a [u8], x: Next) -> Option<Registers>
     requires { Busy w.old r × Short pre.now body.now × SizedNext x }
     ensures { Tried (does (both pre.now body.now) x) w.old r w.new result }
 {
@@ -220,7 +218,7 @@ pub fn affect<'a>(
     pre: &'a [u8],
     body: &'a [u8],
     e: Option<Effect>,
-) -> Registers
+) -> Option<Registers>
     requires { Busy w.old r × Short pre.now body.now × Sized e }
     ensures { Tried (affected (both pre.now body.now) e) w.old r w.new result }
 {

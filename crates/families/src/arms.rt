@@ -16,7 +16,7 @@ pub fn affect_vector<'a>(
     pre: &'a [u8],
     body: &'a [u8],
     e: Option<Effect>,
-) -> Registers
+) -> Option<Registers>
     requires { Busy w.old r × Short pre.now body.now × Sized e }
     ensures { Tried (affected (both pre.now body.now) e) w.old r w.new result }
 {
@@ -44,7 +44,7 @@ pub fn affect_number<'a>(
     pre: &'a [u8],
     body: &'a [u8],
     e: Option<Effect>,
-) -> Registers
+) -> Option<Registers>
     requires { Busy w.old r × Short pre.now body.now × Sized e }
     ensures { Tried (affected (both pre.now body.now) e) w.old r w.new result }
 {
@@ -61,7 +61,7 @@ pub fn affect_stack<'a>(
     pre: &'a [u8],
     body: &'a [u8],
     e: Option<Effect>,
-) -> Registers
+) -> Option<Registers>
     requires { Busy w.old r × Short pre.now body.now × Sized e }
     ensures { Tried (affected (both pre.now body.now) e) w.old r w.new result }
 {
@@ -78,7 +78,7 @@ pub fn affect_body<'a>(
     pre: &'a [u8],
     body: &'a [u8],
     e: Option<Effect>,
-) -> Registers
+) -> Option<Registers>
     requires { Busy w.old r × Short pre.now body.now × Sized e }
     ensures { Tried (affected (both pre.now body.now) e) w.old r w.new result }
 {

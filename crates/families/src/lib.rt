@@ -23,14 +23,14 @@ pub fn on_vectors<'a>(
     pre: &'a [u8],
     body: &'a [u8],
     o: VectorOp,
-) -> Registers
+) -> Option<Registers>
     requires { Busy w.old r × Short pre.now body.now }
     ensures { (n : ℕ) → OnVectors o ≡ op_of n → Tried (execute (both pre.now body.now) (Plain n)) w.old r w.new result }
 {
     let a = reckoning::vector::arity(o);
     let t = state::stack::tops(w, r.height);
     if a > t.count {
-        return state::stack::failed(r);
+        return None;
     }
     let x = state::values::value_of(t.first);
     let y = state::values::value_of(t.second);
@@ -47,14 +47,14 @@ pub fn on_tests<'a>(
     pre: &'a [u8],
     body: &'a [u8],
     o: TestOp,
-) -> Registers
+) -> Option<Registers>
     requires { Busy w.old r × Short pre.now body.now }
     ensures { (n : ℕ) → Tests o ≡ op_of n → Tried (execute (both pre.now body.now) (Plain n)) w.old r w.new result }
 {
     let a = operators::test::arity(o);
     let t = state::stack::tops(w, r.height);
     if a > t.count {
-        return state::stack::failed(r);
+        return None;
     }
     let x = state::values::value_of(t.first);
     let y = state::values::value_of(t.second);
@@ -71,14 +71,14 @@ pub fn on_numbers<'a>(
     pre: &'a [u8],
     body: &'a [u8],
     o: ArithOp,
-) -> Registers
+) -> Option<Registers>
     requires { Busy w.old r × Short pre.now body.now }
     ensures { (n : ℕ) → Reckons o ≡ op_of n → Tried (execute (both pre.now body.now) (Plain n)) w.old r w.new result }
 {
     let a = reckoning::arith::arity(o);
     let t = state::stack::tops(w, r.height);
     if a > t.count {
-        return state::stack::failed(r);
+        return None;
     }
     let x = state::values::value_of(t.first);
     let y = state::values::value_of(t.second);
@@ -95,14 +95,14 @@ pub fn on_stack<'a>(
     pre: &'a [u8],
     body: &'a [u8],
     o: StackOp,
-) -> Registers
+) -> Option<Registers>
     requires { Busy w.old r × Short pre.now body.now }
     ensures { (n : ℕ) → OnStack o ≡ op_of n → Tried (execute (both pre.now body.now) (Plain n)) w.old r w.new result }
 {
     let a = operators::stack::arity(o);
     let t = state::stack::tops(w, r.height);
     if a > t.count {
-        return state::stack::failed(r);
+        return None;
     }
     let x = state::values::value_of(t.first);
     let y = state::values::value_of(t.second);
@@ -121,7 +121,7 @@ pub fn holder<'a>(
     n: u16,
     start: u32,
     len: u32,
-) -> Registers
+) -> Option<Registers>
     requires { Busy w.old r × Short pre.now body.now × (start + len < 4294967296) }
     ensures { Tried (execute (both pre.now body.now) (WithBody n start len)) w.old r w.new result }
 {
@@ -129,7 +129,7 @@ pub fn holder<'a>(
     let a = operators::control::arity(o);
     let t = state::stack::tops(w, r.height);
     if a > t.count {
-        return state::stack::failed(r);
+        return None;
     }
     let x = state::values::value_of(t.first);
     let e = operators::control::effect(o, start, len, x);

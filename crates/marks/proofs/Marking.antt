@@ -12,6 +12,7 @@ use lib.Dec.{eqb, leb}
 use lib.ListN.{length, get_or, set, take, drop, length-set, length-append}
 use mir.Syntax.{w32}
 use mir.Facts.{to_z_pos}
+use Rattle.std.specs.Prelude.{Some, None}
 use Rattle.table.specs.declared.Slot.{Slot}
 use Rattle.table.specs.Slots.{nil, mk, slots, desc, copied}
 use Rattle.table.proofs.Moves.{Same, same_set, same_copied, same_then, length_copied}
@@ -21,12 +22,12 @@ use Rattle.machine.specs.Contexts.{above, beneath, over}
 use Rattle.machine.specs.Operand.{natural}
 use Rattle.machine.specs.Engine.{limited, provided, with_stack, push, place, remove_at, remove, tally_at, tally}
 use Rattle.state.specs.declared.Registers.{Registers}
-use Rattle.state.specs.Layout.{value_in, entry_in, stack_of, context_in, contexts_of, abs, Busy, Tried}
+use Rattle.state.specs.Layout.{value_in, entry_in, stack_of, context_in, contexts_of, abs, Busy, Perhaps, Tried}
 use lib.ListN.{drop_of_length-le}
 use Rattle.state.specs.Operations.{mark_put}
 use Rattle.state.proofs.Parts.{wide, room_of_lem, stack_same, stack_at, stack_more, contexts_at, length_stack}
 use Rattle.state.proofs.Cutting.{over_take, over_drop, over_all, beneath_drop, entries_at, entries_same, length_entries, stack_taken, stack_dropped, stack_joined, entries_moved}
-use Rattle.state.proofs.Trying.{trying, failed, tried_no, tried_as, full_stack, stack_made}
+use Rattle.state.proofs.Trying.{trying, tried_no, tried_as, full_stack, stack_made}
 use Rattle.state.proofs.Stacking.{above_few, enough, few}
 
 -- ---- a mark put
@@ -68,9 +69,9 @@ running_id w r c g e = rw (contexts_at (slots w) r.depth c g.runs e)
 -- ---- MARK
 
 module _ {w : List ℕ} {r : Registers} (n : ℕ) (b : Bool) (g : Busy w r) (eb : b ≡ leb n (length (above (stack_of (slots w) r.height)))) where
-  pub place_few : {r' : Registers} → b ≡ false → r' ≡ failed r → Tried (place n) w r w r'
+  pub place_few : {r' : Perhaps} → b ≡ false → r' ≡ None → Tried (place n) w r w r'
   unfolding place provided
-  place_few {r'} h q = tried_no g (rw (← eb, h)) q
+  place_few {r'} h q = tried_no (rw (← eb, h)) q
 
   module _ (there : b ≡ true) where
     marked : ℕ → List Entry
@@ -92,7 +93,7 @@ module _ {w : List ℕ} {r : Registers} (n : ℕ) (b : Bool) (g : Busy w r) (eb 
           over_take s n _ en ∙ ap (λ (x : List Entry). x ++ (mark c.kind ∷ stack_of (slots w) (r.height - n))) (stack_taken (slots w) n r.height l) in
           rw (← eb, there, running_id w r c g got, low, all)
 
-      pub place_yes : {w' : List ℕ} {r' : Registers} → r.height < 128 → slots w' ≡ mark_put (slots w) (r.height - n) n c.kind → r' ≡ trying r (r.height + 1) r.depth r.used true → Tried (place n) w r w' r'
+      pub place_yes : {w' : List ℕ} {r' : Perhaps} → r.height < 128 → slots w' ≡ mark_put (slots w) (r.height - n) n c.kind → r' ≡ Some (trying r (r.height + 1) r.depth r.used) → Tried (place n) w r w' r'
       unfolding mark_put marked
       place_yes {w'} {r'} f p q =
           let m = slots w in
@@ -106,20 +107,20 @@ module _ {w : List ℕ} {r : Registers} (n : ℕ) (b : Bool) (g : Busy w r) (eb 
           let st : stack_of (slots w') (r.height + 1) ≡ marked c.kind = rw (p, e) (mark_stack m a n c.kind (omega arith) room) in
           stack_made (r.height + 1) (marked c.kind) g rm (omega arith) sm st place_is q
 
-    pub place_full : {r' : Registers} → 128 ≤ r.height → r' ≡ failed r → Tried (place n) w r w r'
+    pub place_full : {r' : Perhaps} → 128 ≤ r.height → r' ≡ None → Tried (place n) w r w r'
     place_full {r'} f q =
         let c = get_or (slots w) (1752 + (r.depth - 1)) nil in
-        tried_no g (place_is c refl ∙ full_stack w r (marked c.kind) (omega (arith, marked_long c.kind))) q
+        tried_no (place_is c refl ∙ full_stack w r (marked c.kind) (omega (arith, marked_long c.kind))) q
 
 -- under no value
 module _ {w : List ℕ} {r : Registers} (g : Busy w r) where
   none_enough : true ≡ leb 0 (length (above (stack_of (slots w) r.height)))
   none_enough = sym (le-leb 0 (length (above (stack_of (slots w) r.height))) (omega arith))
 
-  pub bare_full : {r' : Registers} → 128 ≤ r.height → r' ≡ failed r → Tried (place 0) w r w r'
+  pub bare_full : {r' : Perhaps} → 128 ≤ r.height → r' ≡ None → Tried (place 0) w r w r'
   bare_full f q = place_full 0 true g none_enough refl f q
 
-  pub bare_yes : {w' : List ℕ} {r' : Registers} (c : Slot) → c ≡ get_or (slots w) (1752 + (r.depth - 1)) nil → r.height < 128 → slots w' ≡ mark_put (slots w) r.height 0 c.kind → r' ≡ trying r (r.height + 1) r.depth r.used true → Tried (place 0) w r w' r'
+  pub bare_yes : {w' : List ℕ} {r' : Perhaps} (c : Slot) → c ≡ get_or (slots w) (1752 + (r.depth - 1)) nil → r.height < 128 → slots w' ≡ mark_put (slots w) r.height 0 c.kind → r' ≡ Some (trying r (r.height + 1) r.depth r.used) → Tried (place 0) w r w' r'
   bare_yes c got f p q = let z : r.height - 0 ≡ r.height = omega arith in place_yes 0 true g none_enough refl c got f (rw z p) q
 
 -- ---- UNMARK
@@ -165,24 +166,24 @@ bare_by id n s t h (yes e) =
 bare_by id n s t h (no e) = miss id n (above s) (beneath s) t e
 
 module _ {w : List ℕ} {r : Registers} (n : ℕ) (g : Busy w r) where
-  pub remove_bare : {r' : Registers} → r.height ≤ n → r' ≡ failed r → Tried (remove n) w r w r'
+  pub remove_bare : {r' : Perhaps} → r.height ≤ n → r' ≡ None → Tried (remove n) w r w r'
   unfolding remove
-  remove_bare {r'} h q = tried_no g (bare_by _ n (stack_of (slots w) r.height) _ (omega (arith, length_stack (slots w) r.height)) (ℕ_discrete n _)) q
+  remove_bare {r'} h q = tried_no (bare_by _ n (stack_of (slots w) r.height) _ (omega (arith, length_stack (slots w) r.height)) (ℕ_discrete n _)) q
 
   module _ (b : Bool) (eb : b ≡ leb n (length (above (stack_of (slots w) r.height)))) where
-    pub remove_few : {r' : Registers} → b ≡ false → r' ≡ failed r → Tried (remove n) w r w r'
+    pub remove_few : {r' : Perhaps} → b ≡ false → r' ≡ None → Tried (remove n) w r w r'
     unfolding remove
-    remove_few {r'} h q = tried_no g (miss _ n _ _ _ (λ e. let l = leb-false n _ (sym eb ∙ h) in omega arith)) q
+    remove_few {r'} h q = tried_no (miss _ n _ _ _ (λ e. let l = leb-false n _ (sym eb ∙ h) in omega arith)) q
 
     module _ (there : b ≡ true) (v : Slot) (got : v ≡ get_or (slots w) (r.height - n - 1) nil) (more : n < r.height) where
       under : drop n (stack_of (slots w) r.height) ≡ entry_in v ∷ stack_of (slots w) (r.height - n - 1)
       under = stack_dropped (slots w) n r.height (omega arith) ∙ stack_at (slots w) (r.height - n) v (omega arith) got
 
-      pub remove_value : {r' : Registers} → (v.kind ≡ 5 → ⊥) → r' ≡ failed r → Tried (remove n) w r w r'
+      pub remove_value : {r' : Perhaps} → (v.kind ≡ 5 → ⊥) → r' ≡ None → Tried (remove n) w r w r'
       unfolding remove entry_in
       remove_value {r'} h q =
           let u : drop n (stack_of (slots w) r.height) ≡ val (value_in v) ∷ stack_of (slots w) (r.height - n - 1) = rw (ne_eqb v.kind 5 h) at under in
-          tried_no g (miss _ n _ _ _ (value_under (stack_of (slots w) r.height) n _ _ u)) q
+          tried_no (miss _ n _ _ _ (value_under (stack_of (slots w) r.height) n _ _ u)) q
 
       module _ (is : v.kind ≡ 5) (c : Slot) (has : c ≡ get_or (slots w) (1752 + (r.depth - 1)) nil) where
         marked_at : (n ≡ length (above (stack_of (slots w) r.height))) × (beneath (stack_of (slots w) r.height) ≡ mark v.a ∷ stack_of (slots w) (r.height - n - 1))
@@ -191,11 +192,11 @@ module _ {w : List ℕ} {r : Registers} (n : ℕ) (g : Busy w r) where
             let u : drop n (stack_of (slots w) r.height) ≡ mark v.a ∷ stack_of (slots w) (r.height - n - 1) = rw (eq-eqb v.kind 5 is) at under in
             mark_under (stack_of (slots w) r.height) n v.a _ (enough n b g eb there) u
 
-        pub remove_other : {r' : Registers} → (v.a ≡ c.kind → ⊥) → r' ≡ failed r → Tried (remove n) w r w r'
+        pub remove_other : {r' : Perhaps} → (v.a ≡ c.kind → ⊥) → r' ≡ None → Tried (remove n) w r w r'
         unfolding remove remove_at provided
-        remove_other {r'} h q = tried_no g (rw (marked_at.1, running_id w r c g has, ne_eqb v.a c.kind h)) q
+        remove_other {r'} h q = tried_no (rw (marked_at.1, running_id w r c g has, ne_eqb v.a c.kind h)) q
 
-        pub remove_yes : {w' : List ℕ} {r' : Registers} → v.a ≡ c.kind → slots w' ≡ copied (slots w) (r.height - n) (r.height - n - 1) n → r' ≡ trying r (r.height - 1) r.depth r.used true → Tried (remove n) w r w' r'
+        pub remove_yes : {w' : List ℕ} {r' : Perhaps} → v.a ≡ c.kind → slots w' ≡ copied (slots w) (r.height - n) (r.height - n - 1) n → r' ≡ Some (trying r (r.height - 1) r.depth r.used) → Tried (remove n) w r w' r'
         unfolding remove remove_at provided
         remove_yes {w'} {r'} own p q =
             let m = slots w in
@@ -228,28 +229,28 @@ module _ {w : List ℕ} {r : Registers} (i : ℕ) (g : Busy w r) (il : i ≤ r.h
   unfolding stack_of desc
   bare e = beneath_is ∙ (rw e)
 
-  pub tally_bare : {r' : Registers} → i ≡ 0 → r' ≡ failed r → Tried tally w r w r'
+  pub tally_bare : {r' : Perhaps} → i ≡ 0 → r' ≡ None → Tried tally w r w r'
   unfolding tally tally_at
-  tally_bare {r'} e q = tried_no g (rw (bare e)) q
+  tally_bare {r'} e q = tried_no (rw (bare e)) q
 
   module _ (v : Slot) (got : v ≡ get_or (slots w) (i - 1) nil) (ne : i ≡ 0 → ⊥) where
     top_is : beneath (stack_of (slots w) r.height) ≡ entry_in v ∷ stack_of (slots w) (i - 1)
     top_is = beneath_is ∙ stack_at (slots w) i v (omega arith) got
 
-    pub tally_value : {r' : Registers} → (v.kind ≡ 5 → ⊥) → r' ≡ failed r → Tried tally w r w r'
+    pub tally_value : {r' : Perhaps} → (v.kind ≡ 5 → ⊥) → r' ≡ None → Tried tally w r w r'
     unfolding tally tally_at entry_in
-    tally_value {r'} h q = tried_no g (rw (top_is, ne_eqb v.kind 5 h)) q
+    tally_value {r'} h q = tried_no (rw (top_is, ne_eqb v.kind 5 h)) q
 
     module _ (is : v.kind ≡ 5) (c : Slot) (has : c ≡ get_or (slots w) (1752 + (r.depth - 1)) nil) where
       mark_is : beneath (stack_of (slots w) r.height) ≡ mark v.a ∷ stack_of (slots w) (i - 1)
       unfolding entry_in
       mark_is = rw (eq-eqb v.kind 5 is) at top_is
 
-      pub tally_other : {r' : Registers} → (v.a ≡ c.kind → ⊥) → r' ≡ failed r → Tried tally w r w r'
+      pub tally_other : {r' : Perhaps} → (v.a ≡ c.kind → ⊥) → r' ≡ None → Tried tally w r w r'
       unfolding tally tally_at provided
-      tally_other {r'} h q = tried_no g (rw (mark_is, running_id w r c g has, ne_eqb v.a c.kind h)) q
+      tally_other {r'} h q = tried_no (rw (mark_is, running_id w r c g has, ne_eqb v.a c.kind h)) q
 
-      pub tally_push : {w' : List ℕ} {r' : Registers} (n : ℕ) → v.a ≡ c.kind → n ≡ r.height - i → Tried (push (value_in (mk 1 n 1 0 0))) w r w' r' → Tried tally w r w' r'
+      pub tally_push : {w' : List ℕ} {r' : Perhaps} (n : ℕ) → v.a ≡ c.kind → n ≡ r.height - i → Tried (push (value_in (mk 1 n 1 0 0))) w r w' r' → Tried tally w r w' r'
       unfolding tally tally_at provided value_in natural
       tally_push {w'} {r'} n h e t =
           let l : r.height - i ≤ 128 = omega arith in

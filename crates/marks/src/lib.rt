@@ -44,7 +44,7 @@ fn put_mark(w: &mut [u8], a: usize, n: usize, id: u32)
 }
 
 // MARK: a mark of the running context under n values.
-pub fn place(w: &mut [u8], r: Registers, n: usize) -> Registers
+pub fn place(w: &mut [u8], r: Registers, n: usize) -> Option<Registers>
     requires { Busy w.old r }
     ensures { Tried (place n) w.old r w.new result }
 {
@@ -52,83 +52,74 @@ pub fn place(w: &mut [u8], r: Registers, n: usize) -> Registers
     let there = state::stack::has(w, height, n);
     if there {
         if height >= 128 {
-            return state::stack::failed(r);
+            return None;
         }
         let d = r.depth;
         let c = table::slots::get(w, 1752 + (d - 1));
         put_mark(w, height - n, n, c.kind);
-        let mut q = r;
-        q.height = height + 1;
-        q.ok = true;
-        return q;
+        return Some(Registers { height: height + 1, ..r });
     }
-    state::stack::failed(r)
+    None
 }
 
 // MARK under no value.
-pub fn place_bare(w: &mut [u8], r: Registers) -> Registers
+pub fn place_bare(w: &mut [u8], r: Registers) -> Option<Registers>
     requires { Busy w.old r }
     ensures { Tried (place 0) w.old r w.new result }
 {
     let height = r.height;
     if height >= 128 {
-        return state::stack::failed(r);
+        return None;
     }
     let c = table::slots::get(w, 1752 + (r.depth - 1));
     put_mark(w, height, 0, c.kind);
-    let mut q = r;
-    q.height = height + 1;
-    q.ok = true;
-    q
+    Some(Registers { height: height + 1, ..r })
 }
 
 // UNMARK: the running context's own mark, with exactly n values above it.
-pub fn remove(w: &mut [u8], r: Registers, n: usize) -> Registers
+pub fn remove(w: &mut [u8], r: Registers, n: usize) -> Option<Registers>
     requires { Busy w.old r }
     ensures { Tried (remove n) w.old r w.new result }
 {
     let height = r.height;
     if n >= height {
-        return state::stack::failed(r);
+        return None;
     }
     let there = state::stack::has(w, height, n);
     if there {
         let v = table::slots::get(w, height - n - 1);
         if v.kind != 5 {
-            return state::stack::failed(r);
+            return None;
         }
         let d = r.depth;
         let c = table::slots::get(w, 1752 + (d - 1));
         if v.a != c.kind {
-            return state::stack::failed(r);
+            return None;
         }
         table::slots::copy(w, height - n, height - n - 1, n);
-        let mut q = r;
-        q.height = height - 1;
-        q.ok = true;
-        return q;
+        return Some(Registers { height: height - 1, ..r });
     }
-    state::stack::failed(r)
+    None
 }
 
 // COUNT: how many values stand above the running context's own mark. No mark stands at the height `clear` or above.
-pub fn tally(w: &mut [u8], r: Registers, clear: usize) -> Registers
+pub fn tally(w: &mut [u8], r: Registers, clear: usize) -> Option<Registers>
     requires { Busy w.old r × (length (beneath (stack_of (slots w.old) r.height)) ≤ clear) }
     ensures { Tried tally w.old r w.new result }
 {
     let height = r.height;
     let i = base(w, height, clear);
     if i == 0 {
-        return state::stack::failed(r);
+        return None;
     }
     let v = table::slots::get(w, i - 1);
     if v.kind != 5 {
-        return state::stack::failed(r);
+        return None;
     }
     let d = r.depth;
     let c = table::slots::get(w, 1752 + (d - 1));
     if v.a != c.kind {
-        return state::stack::failed(r);
+        return None;
     }
     let n = table::words::word(height - i);
     state::stack::push_slot(

@@ -27,7 +27,7 @@ state_path {b} {n} {e} p q r t = λ i. record { stack = p i; contexts = q i; fra
 -- ---- registers replaced
 
 abbrev pub moved : Registers → ℕ → ℕ → ℕ → Bool → Registers
-moved r height depth errors b = record { height = height; depth = depth; used = r.used; steps = r.steps; errors = errors; skipping = b; ok = r.ok }
+moved r height depth errors b = record { height = height; depth = depth; used = r.used; steps = r.steps; errors = errors; skipping = b }
 
 -- ---- recovery
 

@@ -12,6 +12,7 @@ use native.Mathlib.Omega.{arith}
 use borrow.Author.Tests.{eq-eqb, le-leb}
 use lib.ListN.{length, get_or, set, replicate, length-set, get_or-eq_default}
 use lib.Seq.{get_or-set_same, get_or-set_other}
+use Rattle.std.specs.Prelude.{Some, None}
 use Rattle.table.specs.declared.Slot.{Slot}
 use Rattle.table.specs.Slots.{nil, mk, slots, asc, desc, copied}
 use Rattle.table.proofs.Moves.{Same, same_set, same_copied, same_then, Apart, length_copied}
@@ -19,12 +20,12 @@ use Rattle.machine.specs.State.{State, zero_frame, running}
 use Rattle.machine.specs.Contexts.{above}
 use Rattle.machine.specs.Engine.{limited, provided, with_contexts, pops, push, noted, last_frame, store_in, store}
 use Rattle.state.specs.declared.Registers.{Registers}
-use Rattle.state.specs.Layout.{value_in, entry_in, stack_of, values_at, frame_at, frame_of, context_in, context_at, contexts_of, aside, abs, lent, Busy, Tried}
+use Rattle.state.specs.Layout.{value_in, entry_in, stack_of, values_at, frame_at, frame_of, context_in, context_at, contexts_of, aside, abs, lent, Busy, Perhaps, Tried}
 use Rattle.state.specs.Operations.{fetch, element, filled, Owned}
 use Rattle.state.proofs.Parts.{wide, room_of_lem, stack_same, values_same, Lies, lent_lies, lies_lent, lent_same, lent_top, lent_renew, aside_same, length_stack, length_values, stack_at, contexts_at}
 use Rattle.state.proofs.Ending.{state_path}
 use Rattle.state.proofs.Cutting.{values_get, values_moved, last_frame_lem, contexts_renew, contexts_store}
-use Rattle.state.proofs.Trying.{trying, failed, clash, tried_no, tried_yes, tried_as, fits_abs, pops_is}
+use Rattle.state.proofs.Trying.{trying, not_none, tried_no, tried_yes, tried_as, fits_abs, pops_is}
 use Rattle.state.proofs.Stacking.{zero_value, above_few, above_value}
 use Rattle.machine.specs.State as state
 
@@ -44,14 +45,14 @@ frame_inside w r c g e = go (lent_lies (r.depth - 1) (c.d % 4096) r.used (rw e (
 -- ---- FGET
 
 module _ {w : List ℕ} {r : Registers} (j : ℕ) (g : Busy w r) where
-  pub fetch_far : {w' : List ℕ} {r' : Registers} (z : Slot) → 50 ≤ j → z ≡ mk 1 0 1 0 0 → Tried (push (value_in z)) w r w' r' → Tried (fetch j) w r w' r'
+  pub fetch_far : {w' : List ℕ} {r' : Perhaps} (z : Slot) → 50 ≤ j → z ≡ mk 1 0 1 0 0 → Tried (push (value_in z)) w r w' r' → Tried (fetch j) w r w' r'
   unfolding fetch
   fetch_far {w'} {r'} z h e t =
       let c = get_or (slots w) (1752 + (r.depth - 1)) nil in
       let far : get_or (values_at (slots w) (frame_of c) 50) j state.zero ≡ state.zero = get_or-eq_default (values_at (slots w) (frame_of c) 50) state.zero (rw length_values h) in
       tried_as (rw (running_frame w r c g refl, far, e, zero_value)) t
 
-  pub fetch_push : {w' : List ℕ} {r' : Registers} (c v u : Slot) → j < 50 → c ≡ get_or (slots w) (1752 + (r.depth - 1)) nil → v ≡ get_or (slots w) (frame_of c + j) nil → value_in u ≡ value_in v → Tried (push (value_in u)) w r w' r' → Tried (fetch j) w r w' r'
+  pub fetch_push : {w' : List ℕ} {r' : Perhaps} (c v u : Slot) → j < 50 → c ≡ get_or (slots w) (1752 + (r.depth - 1)) nil → v ≡ get_or (slots w) (frame_of c + j) nil → value_in u ≡ value_in v → Tried (push (value_in u)) w r w' r' → Tried (fetch j) w r w' r'
   unfolding fetch
   fetch_push {w'} {r'} c v u h got e k t =
       tried_as (rw (running_frame w r c g got, values_get (slots w) (frame_of c) 50 j _ h, ← e, ← k)) t
@@ -59,13 +60,13 @@ module _ {w : List ℕ} {r : Registers} (j : ℕ) (g : Busy w r) where
 -- ---- a cell
 
 module _ {w : List ℕ} {r : Registers} (k : ℕ) (g : Busy w r) where
-  pub element_far : {w' : List ℕ} {r' : Registers} (z : Slot) → r.used ≤ k → z ≡ mk 1 0 1 0 0 → Tried (push (value_in z)) w r w' r' → Tried (element k) w r w' r'
+  pub element_far : {w' : List ℕ} {r' : Perhaps} (z : Slot) → r.used ≤ k → z ≡ mk 1 0 1 0 0 → Tried (push (value_in z)) w r w' r' → Tried (element k) w r w' r'
   unfolding element
   element_far {w'} {r'} z h e t =
       let far : get_or (values_at (slots w) 728 r.used) k state.zero ≡ state.zero = get_or-eq_default (values_at (slots w) 728 r.used) state.zero (rw length_values h) in
       tried_as (rw (far, e, zero_value)) t
 
-  pub element_push : {w' : List ℕ} {r' : Registers} (v u : Slot) → k < r.used → v ≡ get_or (slots w) (728 + k) nil → value_in u ≡ value_in v → Tried (push (value_in u)) w r w' r' → Tried (element k) w r w' r'
+  pub element_push : {w' : List ℕ} {r' : Perhaps} (v u : Slot) → k < r.used → v ≡ get_or (slots w) (728 + k) nil → value_in u ≡ value_in v → Tried (push (value_in u)) w r w' r' → Tried (element k) w r w' r'
   unfolding element
   element_push {w'} {r'} v u h e i t = tried_as (rw (values_get (slots w) 728 r.used k _ h, ← e, ← i)) t
 
@@ -77,14 +78,14 @@ set_far (x ∷ l) zero a h = absurd (omega arith)
 set_far (x ∷ l) (suc j) a h = ap (λ y. x ∷ y) (set_far l j a (omega arith))
 
 module _ {w : List ℕ} {r : Registers} (j : ℕ) (g : Busy w r) where
-  pub store_empty : {r' : Registers} → r.height ≡ 0 → r' ≡ failed r → Tried (store j) w r w r'
+  pub store_empty : {r' : Perhaps} → r.height ≡ 0 → r' ≡ None → Tried (store j) w r w r'
   unfolding store provided above stack_of desc
-  store_empty {r'} h q = tried_no g (rw h) q
+  store_empty {r'} h q = tried_no (rw h) q
 
   module _ (v : Slot) (got : v ≡ get_or (slots w) (r.height - 1) nil) (some_entry : r.height ≡ 0 → ⊥) where
-    pub store_mark : {r' : Registers} → v.kind ≡ 5 → r' ≡ failed r → Tried (store j) w r w r'
+    pub store_mark : {r' : Perhaps} → v.kind ≡ 5 → r' ≡ None → Tried (store j) w r w r'
     unfolding store provided above entry_in
-    store_mark {r'} h q = tried_no g (rw (stack_at (slots w) r.height v (omega arith) got, eq-eqb v.kind 5 h)) q
+    store_mark {r'} h q = tried_no (rw (stack_at (slots w) r.height v (omega arith) got, eq-eqb v.kind 5 h)) q
 
     module _ (is_value : v.kind ≡ 5 → ⊥) where
       first_value : above (stack_of (slots w) r.height) ≡ value_in v ∷ above (stack_of (slots w) (r.height - 1))
@@ -93,33 +94,33 @@ module _ {w : List ℕ} {r : Registers} (j : ℕ) (g : Busy w r) where
       one : 1 ≤ length (above (stack_of (slots w) r.height))
       one = rw first_value (omega arith)
 
-      popped : pops 1 (abs w r) ≡ abs w (trying r (r.height - 1) r.depth r.used true)
-      popped = sym (pops_is w r 1 (length (above (stack_of (slots w) r.height))) true one (omega (arith, above_few (stack_of (slots w) r.height), length_stack (slots w) r.height)) refl)
+      popped : pops 1 (abs w r) ≡ abs w (trying r (r.height - 1) r.depth r.used)
+      popped = sym (pops_is w r 1 (length (above (stack_of (slots w) r.height))) one (omega (arith, above_few (stack_of (slots w) r.height), length_stack (slots w) r.height)) refl)
 
-      store_is : store j (abs w r) ≡ limited (noted (with_contexts (store_in j (value_in v) (contexts_of (slots w) r.depth)) (abs w (trying r (r.height - 1) r.depth r.used true))))
+      store_is : store j (abs w r) ≡ limited (noted (with_contexts (store_in j (value_in v) (contexts_of (slots w) r.depth)) (abs w (trying r (r.height - 1) r.depth r.used))))
       unfolding store provided
       store_is = rw (le-leb 1 (length (above (stack_of (slots w) r.height))) one, popped, first_value)
 
-      pub store_far : {r' : Registers} → 50 ≤ j → r' ≡ trying r (r.height - 1) r.depth r.used true → Tried (store j) w r w r'
+      pub store_far : {r' : Perhaps} → 50 ≤ j → r' ≡ Some (trying r (r.height - 1) r.depth r.used) → Tried (store j) w r w r'
       unfolding noted store_in context_in
       store_far {r'} h q =
           let m = slots w in
           let c = get_or m (1752 + (r.depth - 1)) nil in
-          let r₁ = trying r (r.height - 1) r.depth r.used true in
+          let r₁ = trying r (r.height - 1) r.depth r.used in
           let same : store_in j (value_in v) (contexts_of m r.depth) ≡ contexts_of m r.depth =
           rw (contexts_at m r.depth c g.runs refl, set_far (values_at m (frame_of c) 50) j (value_in v) (rw length_values h)) in
           let e : abs w r₁ ≡ noted (with_contexts (store_in j (value_in v) (contexts_of m r.depth)) (abs w r₁)) =
           rw same (state_path refl refl (sym (last_frame_lem m r.depth r.used (values_at m 128 50) g.runs g.frames_fit g.cells_fit)) refl) in
-          rw q (tried_yes (omega arith) refl refl refl (store_is ∙ (rw (← e) (fits_abs w r₁ (omega arith) g.depth_fits g.cells_fit))))
+          rw q (tried_yes (omega arith) refl refl (store_is ∙ (rw (← e) (fits_abs w r₁ (omega arith) g.depth_fits g.cells_fit))))
 
       -- in the running context's own frame
-      pub store_yes : {w' : List ℕ} {r' : Registers} → frame_of (get_or (slots w) (1752 + (r.depth - 1)) nil) ≡ frame_at (r.depth - 1) → j < 50 → slots w' ≡ set (slots w) (128 + 50 * (r.depth - 1) + j) v → r' ≡ trying r (r.height - 1) r.depth r.used true → Tried (store j) w r w' r'
+      pub store_yes : {w' : List ℕ} {r' : Perhaps} → frame_of (get_or (slots w) (1752 + (r.depth - 1)) nil) ≡ frame_at (r.depth - 1) → j < 50 → slots w' ≡ set (slots w) (128 + 50 * (r.depth - 1) + j) v → r' ≡ Some (trying r (r.height - 1) r.depth r.used) → Tried (store j) w r w' r'
       unfolding noted
       store_yes {w'} {r'} own h p q =
           let m = slots w in
           let k = frame_at (r.depth - 1) + j in
           let m' = set m k v in
-          let r₁ = trying r (r.height - 1) r.depth r.used true in
+          let r₁ = trying r (r.height - 1) r.depth r.used in
           let room = wide w g.room in
           let l : 2400 ≤ length m' = rw length-set room in
           let rm = room_of_lem w' m' p l in
@@ -130,16 +131,16 @@ module _ {w : List ℕ} {r : Registers} (j : ℕ) (g : Busy w r) where
           (rw (← cs) (sym (last_frame_lem (slots w') r.depth r.used (values_at m 128 50) g.runs (omega arith) g.cells_fit)))
           (rw p (values_same m' m 728 r.used (same_set m k v 728 _ (inl (omega arith))))) in
           let kp : aside w' ≡ aside w = aside_same w' w (rw p (same_set m k v 1764 1814 (inl (omega arith)))) in
-          rw q (tried_yes (omega arith) kp refl refl (store_is ∙ (rw (← e) (fits_abs w' r₁ (omega arith) g.depth_fits g.cells_fit))))
+          rw q (tried_yes (omega arith) kp refl (store_is ∙ (rw (← e) (fits_abs w' r₁ (omega arith) g.depth_fits g.cells_fit))))
 
 -- ---- the running frame made the running context's own
 
 -- nothing has changed to what w has
-pub store_after : {f : State → Option State} {w w₁ w' : List ℕ} {r r' : Registers} → Owned w r w₁ → r'.ok ≡ true → Tried f w₁ r w' r' → Tried f w r w' r'
-store_after {f} o k t = record {
+pub store_after : {f : State → Option State} {w w₁ w' : List ℕ} {r r' : Registers} → Owned w r w₁ → Tried f w₁ r w' (Some r') → Tried f w r w' (Some r')
+store_after {f} o t = record {
   busy = t.busy;
   does = t.does ∙ ap f o.same;
-  back = λ h. clash (sym k ∙ h);
+  back = λ h. not_none h;
   keeps = t.keeps ∙ o.keeps;
   counted = t.counted;
 }

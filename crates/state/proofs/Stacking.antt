@@ -8,6 +8,7 @@ use native.Mathlib.Omega.{arith}
 use borrow.Author.Tests.{eq-eqb, ne_eqb, le-leb, lt-leb, leb-true}
 use lib.Dec.{leb}
 use lib.ListN.{length, get_or, set, take, drop, length-set, length-append}
+use Rattle.std.specs.Prelude.{Some, None}
 use Rattle.table.specs.declared.Slot.{Slot}
 use Rattle.table.specs.Slots.{nil, mk, slots, desc, copied, rolled}
 use Rattle.table.proofs.Moves.{Same, same_set, same_copied, same_then, length_copied}
@@ -17,14 +18,14 @@ use Rattle.machine.specs.Contexts.{above, beneath, over}
 use Rattle.machine.specs.Engine.{limited, provided, with_stack, values, pops, push, repeat, turn}
 use Rattle.state.specs.declared.Registers.{Registers}
 use Rattle.state.specs.declared.Tops.{Tops}
-use Rattle.state.specs.Layout.{value_in, entry_in, stack_of, context_in, contexts_of, abs, Busy, Tried}
+use Rattle.state.specs.Layout.{value_in, entry_in, stack_of, context_in, contexts_of, abs, Busy, Perhaps, Tried}
 use lib.Dec.{leb-suc-suc}
 use Rattle.state.specs.Layout.{Topmost}
 use Rattle.state.specs.Operations.{push_two, utter}
 use Rattle.state.proofs.Coding.{name_slot}
 use Rattle.state.proofs.Parts.{wide, room_of_lem, stack_same, contexts_at, stack_at, stack_more, length_stack}
 use Rattle.state.proofs.Cutting.{over_take, over_above, over_drop, entries_at, length_entries, stack_taken, stack_dropped, stack_joined, entries_moved, entries_drop, entries_rolled}
-use Rattle.state.proofs.Trying.{trying, failed, tried_no, tried_as, tried_from, pops_is, full_stack, stack_made}
+use Rattle.state.proofs.Trying.{trying, tried_no, tried_as, tried_from, pops_is, full_stack, stack_made}
 use Rattle.machine.specs.State as state
 
 -- ---- how many there are
@@ -104,7 +105,7 @@ pub value_entry : (v : Slot) → (v.kind ≡ 5 → ⊥) → entry_in v ≡ val (
 unfolding entry_in
 value_entry v n = rw (ne_eqb v.kind 5 n)
 
-pub push_yes : {w w' : List ℕ} {r r' : Registers} (v : Slot) → Busy w r → (v.kind ≡ 5 → ⊥) → r.height < 128 → slots w' ≡ set (slots w) r.height v → r' ≡ trying r (r.height + 1) r.depth r.used true → Tried (push (value_in v)) w r w' r'
+pub push_yes : {w w' : List ℕ} {r : Registers} {r' : Perhaps} (v : Slot) → Busy w r → (v.kind ≡ 5 → ⊥) → r.height < 128 → slots w' ≡ set (slots w) r.height v → r' ≡ Some (trying r (r.height + 1) r.depth r.used) → Tried (push (value_in v)) w r w' r'
 unfolding push
 push_yes {w} {w'} {r} {r'} v g n h p q =
     let m = slots w in
@@ -115,29 +116,29 @@ push_yes {w} {w'} {r} {r'} v g n h p q =
     let sm : Same (slots w') m 128 1814 = rw p (same_set m r.height v 128 1814 (inl h)) in
     stack_made (r.height + 1) (val (value_in v) ∷ stack_of m r.height) g rm (omega arith) sm st refl q
 
-pub push_no : {w : List ℕ} {r r' : Registers} (v : Slot) → Busy w r → 128 ≤ r.height → r' ≡ failed r → Tried (push (value_in v)) w r w r'
+pub push_no : {w : List ℕ} {r : Registers} {r' : Perhaps} (v : Slot) → Busy w r → 128 ≤ r.height → r' ≡ None → Tried (push (value_in v)) w r w r'
 unfolding push
-push_no {w} {r} {r'} v g h q = tried_no g (full_stack w r (val (value_in v) ∷ stack_of (slots w) r.height) (omega (arith, length_stack (slots w) r.height))) q
+push_no {w} {r} {r'} v g h q = tried_no (full_stack w r (val (value_in v) ∷ stack_of (slots w) r.height) (omega (arith, length_stack (slots w) r.height))) q
 
-pub push_as : {w w' : List ℕ} {r r' : Registers} (v : Value) (u : Slot) → value_in u ≡ v → Tried (push (value_in u)) w r w' r' → Tried (push v) w r w' r'
+pub push_as : {w w' : List ℕ} {r : Registers} {r' : Perhaps} (v : Value) (u : Slot) → value_in u ≡ v → Tried (push (value_in u)) w r w' r' → Tried (push v) w r w' r'
 push_as v u e t = rw (← e) t
 
 running_origin : (w : List ℕ) (r : Registers) (c : Slot) → Busy w r → c ≡ get_or (slots w) (1752 + (r.depth - 1)) nil → (running (contexts_of (slots w) r.depth)).origin ≡ c.a
 unfolding running context_in
 running_origin w r c g e = rw (contexts_at (slots w) r.depth c g.runs e)
 
-pub name_push : {w w' : List ℕ} {r r' : Registers} (start len : ℕ) (c : Slot) → Busy w r → c ≡ get_or (slots w) (1752 + (r.depth - 1)) nil → Tried (push (value_in (mk 2 c.a start len 0))) w r w' r' → Tried (utter start len) w r w' r'
+pub name_push : {w w' : List ℕ} {r : Registers} {r' : Perhaps} (start len : ℕ) (c : Slot) → Busy w r → c ≡ get_or (slots w) (1752 + (r.depth - 1)) nil → Tried (push (value_in (mk 2 c.a start len 0))) w r w' r' → Tried (utter start len) w r w' r'
 unfolding utter
 name_push {w} {w'} {r} {r'} start len c g got t = tried_as (rw (running_origin w r c g got, (name_slot c.a start len).0)) t
 
 module _ {w : List ℕ} {r : Registers} (v u : Value) (g : Busy w r) where
-  pub two_no : {r' : Registers} → 127 ≤ r.height → r' ≡ failed r → Tried (push_two v u) w r w r'
+  pub two_no : {r' : Perhaps} → 127 ≤ r.height → r' ≡ None → Tried (push_two v u) w r w r'
   unfolding push_two push
-  two_no {r'} h q = tried_no g (full_stack w r (val u ∷ val v ∷ stack_of (slots w) r.height) (omega (arith, length_stack (slots w) r.height))) q
+  two_no {r'} h q = tried_no (full_stack w r (val u ∷ val v ∷ stack_of (slots w) r.height) (omega (arith, length_stack (slots w) r.height))) q
 
-  pub two_yes : {w' : List ℕ} {r' : Registers} (w₁ : List ℕ) (x y : Slot) → r.height < 127 → (value_in x ≡ v) × (x.kind ≡ 5 → ⊥) → (value_in y ≡ u) × (y.kind ≡ 5 → ⊥)
+  pub two_yes : {w' : List ℕ} {r' : Perhaps} (w₁ : List ℕ) (x y : Slot) → r.height < 127 → (value_in x ≡ v) × (x.kind ≡ 5 → ⊥) → (value_in y ≡ u) × (y.kind ≡ 5 → ⊥)
       → slots w₁ ≡ set (slots w) r.height x → slots w' ≡ set (slots w₁) (r.height + 1) y
-      → r' ≡ trying r (r.height + 2) r.depth r.used true → Tried (push_two v u) w r w' r'
+      → r' ≡ Some (trying r (r.height + 2) r.depth r.used) → Tried (push_two v u) w r w' r'
   unfolding push_two push
   two_yes {w'} {r'} w₁ x y h (ex, nx) (ey, ny) p₁ p q =
       let m = slots w in
@@ -177,9 +178,9 @@ over_rest (suc k) (v ∷ a) = over_rest k a
 -- ---- COPY
 
 module _ {w : List ℕ} {r : Registers} (n : ℕ) (b : Bool) (g : Busy w r) (eb : b ≡ leb n (length (above (stack_of (slots w) r.height)))) where
-  pub repeat_few : {r' : Registers} → b ≡ false → r' ≡ failed r → Tried (repeat n) w r w r'
+  pub repeat_few : {r' : Perhaps} → b ≡ false → r' ≡ None → Tried (repeat n) w r w r'
   unfolding repeat provided
-  repeat_few {r'} h q = tried_no g (rw (← eb, h)) q
+  repeat_few {r'} h q = tried_no (rw (← eb, h)) q
 
   module _ (there : b ≡ true) where
     pub enough : n ≤ length (above (stack_of (slots w) r.height))
@@ -206,10 +207,10 @@ module _ {w : List ℕ} {r : Registers} (n : ℕ) (b : Bool) (g : Busy w r) (eb 
     unfolding copies
     copies_long = rw (length-append, length_entries, length_stack)
 
-    pub repeat_full : {r' : Registers} → 128 < r.height + n → r' ≡ failed r → Tried (repeat n) w r w r'
-    repeat_full {r'} f q = tried_no g (repeat_is ∙ full_stack w r copies (omega (arith, copies_long))) q
+    pub repeat_full : {r' : Perhaps} → 128 < r.height + n → r' ≡ None → Tried (repeat n) w r w r'
+    repeat_full {r'} f q = tried_no (repeat_is ∙ full_stack w r copies (omega (arith, copies_long))) q
 
-    pub repeat_yes : {w' : List ℕ} {r' : Registers} → r.height + n ≤ 128 → slots w' ≡ copied (slots w) (r.height - n) r.height n → r' ≡ trying r (r.height + n) r.depth r.used true → Tried (repeat n) w r w' r'
+    pub repeat_yes : {w' : List ℕ} {r' : Perhaps} → r.height + n ≤ 128 → slots w' ≡ copied (slots w) (r.height - n) r.height n → r' ≡ Some (trying r (r.height + n) r.depth r.used) → Tried (repeat n) w r w' r'
     unfolding copies
     repeat_yes {w'} {r'} f p q =
         let m = slots w in
@@ -228,9 +229,9 @@ module _ {w : List ℕ} {r : Registers} (n : ℕ) (b : Bool) (g : Busy w r) (eb 
   -- ROLL
 
   module _ (first : ℕ) where
-    pub turn_few : {r' : Registers} → b ≡ false → r' ≡ failed r → Tried (turn n first) w r w r'
+    pub turn_few : {r' : Perhaps} → b ≡ false → r' ≡ None → Tried (turn n first) w r w r'
     unfolding turn provided
-    turn_few {r'} h q = tried_no g (rw (← eb, h)) q
+    turn_few {r'} h q = tried_no (rw (← eb, h)) q
 
     module _ (there : b ≡ true) (j : ℕ) (ej : j ≡ n - first) where
       j_few : j ≤ n
@@ -265,7 +266,7 @@ module _ {w : List ℕ} {r : Registers} (n : ℕ) (b : Bool) (g : Busy w r) (eb 
       unfolding turned
       turned_long = let l = few there in let jn = j_few in rw (length-append, length-append, length_entries (slots w) (r.height - n) (n - j), length_entries (slots w) (r.height - j) j, length_stack) (omega arith)
 
-      pub turn_yes : {w' : List ℕ} {r' : Registers} → slots w' ≡ rolled (slots w) (r.height - n) n j 1814 → r' ≡ trying r r.height r.depth r.used true → Tried (turn n first) w r w' r'
+      pub turn_yes : {w' : List ℕ} {r' : Perhaps} → slots w' ≡ rolled (slots w) (r.height - n) n j 1814 → r' ≡ Some (trying r r.height r.depth r.used) → Tried (turn n first) w r w' r'
       unfolding turned
       turn_yes {w'} {r'} p q =
           let m = slots w in
@@ -308,7 +309,7 @@ tops_fit m height a t et h = let c = et.count in omega (arith, enough_there (abo
 -- ---- EXCH
 
 -- two slots with the same values
-pub two_as : {w w' : List ℕ} {r r' : Registers} (v u : Value) (x y : Slot) → value_in x ≡ v → value_in y ≡ u → Tried (push_two (value_in x) (value_in y)) w r w' r' → Tried (push_two v u) w r w' r'
+pub two_as : {w w' : List ℕ} {r : Registers} {r' : Perhaps} (v u : Value) (x y : Slot) → value_in x ≡ v → value_in y ≡ u → Tried (push_two (value_in x) (value_in y)) w r w' r' → Tried (push_two v u) w r w' r'
 two_as v u x y ex ey t = rw (← ex, ← ey) t
 
 -- two values taken off and put back in the other order
@@ -319,18 +320,18 @@ swapped s (x ∷ []) e h = absurd (omega arith)
 swapped s (x ∷ y ∷ vs) e h = rw (e, le-leb 2 (length (x ∷ y ∷ vs)) h)
 
 module _ {w : List ℕ} {r : Registers} (t : Tops) (g : Busy w r) (et : Topmost (above (stack_of (slots w) r.height)) t) where
-  pub exchange_few : {r' : Registers} → t.count < 2 → r' ≡ failed r → Tried (turn 2 1) w r w r'
+  pub exchange_few : {r' : Perhaps} → t.count < 2 → r' ≡ None → Tried (turn 2 1) w r w r'
   unfolding turn provided
   exchange_few {r'} h q =
       let vs = above (stack_of (slots w) r.height) in
-      tried_no g (rw (lt-leb 2 (length vs) (fewer vs 2 (omega arith) (omega (arith, et.count))))) q
+      tried_no (rw (lt-leb 2 (length vs) (fewer vs 2 (omega arith) (omega (arith, et.count))))) q
 
   two_there : 2 ≤ t.count → 2 ≤ length (above (stack_of (slots w) r.height))
   two_there h = enough_there (above (stack_of (slots w) r.height)) 2 (omega (arith, et.count))
 
-  pub exchange_yes : {w' : List ℕ} {q r' : Registers} (x y : Slot) → 2 ≤ t.count → value_in x ≡ value_in t.first → value_in y ≡ value_in t.second → q ≡ trying r (r.height - 2) r.depth r.used r.ok
+  pub exchange_yes : {w' : List ℕ} {q : Registers} {r' : Perhaps} (x y : Slot) → 2 ≤ t.count → value_in x ≡ value_in t.first → value_in y ≡ value_in t.second → q ≡ trying r (r.height - 2) r.depth r.used
       → Tried (push_two (value_in x) (value_in y)) w q w' r' → Tried (turn 2 1) w r w' r'
   exchange_yes {w'} {q} {r'} x y h ex ey eq d =
       let vs = above (stack_of (slots w) r.height) in
       let z : length vs ≤ r.height = omega (arith, above_few (stack_of (slots w) r.height), length_stack (slots w) r.height) in
-      tried_from (swapped (abs w r) vs refl (two_there h) ∙ (rw (eq, pops_is w r 2 (length vs) r.ok (two_there h) z refl, ex, ey, et.first, et.second))) (rw eq) d
+      tried_from (swapped (abs w r) vs refl (two_there h) ∙ (rw (eq, pops_is w r 2 (length vs) (two_there h) z refl, ex, ey, et.first, et.second))) (rw eq) d

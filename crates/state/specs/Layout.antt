@@ -2,7 +2,7 @@
 -- frame of context i, once it has been stored to; the cells from 728 on; context i in the slot 1752 + i; from 1764 on a frame kept aside;
 -- from 1814 on room for 128 entries on their way. The table is read totally: whatever words stand in it, they are a state. In order: a
 -- value in a slot; the parts; the state; what holds of it; what an operation promises. Assumes nothing.
-use Rattle.std.specs.Prelude.{◌≡◌, Bool, true, false, cond, ◌&&◌, List, [], ◌∷◌, map, ℕ, zero, suc, ◌+◌, ◌-◌, ◌*◌, ◌%◌, ◌≤◌, ◌<◌, eqb, leb, length, get_or, set, take}
+use Rattle.std.specs.Prelude.{◌≡◌, Bool, true, false, Option as Maybe, Some, None, IfSome, cond, ◌&&◌, List, [], ◌∷◌, map, ℕ, zero, suc, ◌+◌, ◌-◌, ◌*◌, ◌%◌, ◌≤◌, ◌<◌, eqb, leb, length, get_or, set, take}
 use Rattle.std.proofs.Math.Option.{Option, none, some}
 use Rattle.std.specs.Int.{w32}
 use Rattle.std.proofs.Common.{to_z}
@@ -120,17 +120,21 @@ pub record Done (f : State → State) (w : List ℕ) (r : Registers) (w' : List 
   pub keeps : aside w' ≡ aside w
   pub counted : r'.steps ≡ r.steps
 
-unfoldable pub answer : Bool → State → Option State
-answer true s = some s
-answer false s = none
+-- the registers that an operation answers, if it has not failed
+abbrev pub Perhaps : Type 0
+Perhaps = Maybe Registers
 
--- the same of what may fail: then `ok` says so, and the table is as before
-pub record Tried (f : State → Option State) (w : List ℕ) (r : Registers) (w' : List ℕ) (r' : Registers) : Type 0 where
-  pub busy : Busy w' r'
-  pub does : answer r'.ok (abs w' r') ≡ f (abs w r)
-  pub back : r'.ok ≡ false → w' ≡ w
+abbrev pub shown : List ℕ → Perhaps → Option State
+shown w (Some r) = some (abs w r)
+shown w None = none
+
+-- the same of what may fail: then the answer is none, and the table is as before
+pub record Tried (f : State → Option State) (w : List ℕ) (r : Registers) (w' : List ℕ) (q : Perhaps) : Type 0 where
+  pub busy : IfSome q (Busy w')
+  pub does : shown w' q ≡ f (abs w r)
+  pub back : q ≡ None → w' ≡ w
   pub keeps : aside w' ≡ aside w
-  pub counted : r'.steps ≡ r.steps
+  pub counted : IfSome q (λ r'. r'.steps ≡ r.steps)
 
 -- of the contexts at `depth` the running one goes on at `next`
 unfoldable pub goes_to : List Slot → ℕ → ℕ → List Slot
@@ -139,7 +143,7 @@ goes_to m depth next = let v = get_or m (1752 + (depth - 1)) nil in set m (1752 
 -- a step begun: the running context goes on at `next`
 pub record Begun (next : ℕ) (w : List ℕ) (r : Registers) (w' : List ℕ) (r' : Registers) : Type 0 where
   pub moves : slots w' ≡ goes_to (slots w) r.depth next
-  pub registers : r' ≡ record { height = r.height; depth = r.depth; used = r.used; steps = r.steps + 1; errors = r.errors; skipping = r.skipping; ok = r.ok }
+  pub registers : r' ≡ record { height = r.height; depth = r.depth; used = r.used; steps = r.steps + 1; errors = r.errors; skipping = r.skipping }
   pub busy : Busy w' r'
   pub does : abs w' r' ≡ begun next (abs w r)
   pub keeps : aside w' ≡ aside w

@@ -41,7 +41,7 @@ letter_slots d = map (λ (b : ℕ). mk 1 b 1 0 0) d
 -- n cells more are charged, and the entry a, now the topmost, is the vector of them
 pub record VectorPut (a lower n : ℕ) (w : List ℕ) (r : Registers) (w' : List ℕ) (r' : Registers) : Type 0 where
   pub put : slots w' ≡ set (slots w) a (mk 3 r.used lower n 0)
-  pub registers : r' ≡ record { height = a + 1; depth = r.depth; used = r.used + n; steps = r.steps; errors = r.errors; skipping = r.skipping; ok = true }
+  pub registers : r' ≡ record { height = a + 1; depth = r.depth; used = r.used + n; steps = r.steps; errors = r.errors; skipping = r.skipping }
 
 -- the string token at a place of the bytes b becomes a vector with lower bound 0
 unfoldable pub spell : List ℕ → ℕ → State → Option State

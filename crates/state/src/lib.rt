@@ -9,7 +9,7 @@ pub mod stack; // the values above the topmost mark
 pub mod values; // a value read from a slot, a number put into one
 
 // What of the state is no part of the table: entries of the stack, contexts in progress (0: the run has ended), cells used, and the
-// counts. `ok` is the answer of an operation that may fail.
+// counts. An operation that may fail answers none where it fails; the table is then as it was.
 #[derive(Clone, Copy)]
 pub struct Registers {
     pub height: usize,
@@ -18,7 +18,6 @@ pub struct Registers {
     pub steps: usize,
     pub errors: usize,
     pub skipping: bool,
-    pub ok: bool,
 }
 
 // The same registers, field by field, so that the compiler keeps them out of memory around a call.
@@ -32,7 +31,6 @@ pub fn afresh(r: Registers) -> Registers
         steps: r.steps,
         errors: r.errors,
         skipping: r.skipping,
-        ok: r.ok,
     }
 }
 

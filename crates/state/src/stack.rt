@@ -10,15 +10,6 @@ ghost use Rattle.state.specs.Operations.{push_two, utter};
 use crate::{Registers, Tops};
 use table::Slot;
 
-// An operation that failed: nothing is changed but the answer.
-pub fn failed(r: Registers) -> Registers
-    ensures { result ≡ record { height = r.height; depth = r.depth; used = r.used; steps = r.steps; errors = r.errors; skipping = r.skipping; ok = false } }
-{
-    let mut q = r;
-    q.ok = false;
-    q
-}
-
 // Whether n values stand above the topmost mark.
 pub fn has(w: &[u8], height: usize, n: usize) -> bool
     requires { (height ≤ 128) × (48000 ≤ length w.now) }
@@ -78,22 +69,22 @@ pub fn tops(w: &[u8], height: usize) -> Tops
     }
 }
 
-pub fn push_slot(w: &mut [u8], r: Registers, v: Slot) -> Registers
+pub fn push_slot(w: &mut [u8], r: Registers, v: Slot) -> Option<Registers>
     requires { Busy w.old r × (v.kind ≡ 5 → ⊥) }
     ensures { Tried (push (value_in v)) w.old r w.new result }
 {
     let height = r.height;
     if height >= 128 {
-        return failed(r);
+        return None;
     }
     table::slots::put(w, height, v);
-    let mut q = r;
-    q.height = height + 1;
-    q.ok = true;
-    q
+    Some(Registers {
+        height: height + 1,
+        ..r
+    })
 }
 
-pub fn push_number(w: &mut [u8], r: Registers, a: numbers::Number) -> Registers
+pub fn push_number(w: &mut [u8], r: Registers, a: numbers::Number) -> Option<Registers>
     requires { Busy w.old r }
     ensures { Tried (push (Number a)) w.old r w.new result }
 {
@@ -102,7 +93,7 @@ pub fn push_number(w: &mut [u8], r: Registers, a: numbers::Number) -> Registers
 }
 
 // An identifier of the running body's origin, its token at `start`.
-pub fn push_name(w: &mut [u8], r: Registers, start: u32, len: u32) -> Registers
+pub fn push_name(w: &mut [u8], r: Registers, start: u32, len: u32) -> Option<Registers>
     requires { Busy w.old r }
     ensures { Tried (utter start len) w.old r w.new result }
 {
@@ -122,24 +113,29 @@ pub fn push_name(w: &mut [u8], r: Registers, start: u32, len: u32) -> Registers
 }
 
 // Two values, the second on top.
-fn push_slots(w: &mut [u8], r: Registers, v: Slot, u: Slot) -> Registers
+fn push_slots(w: &mut [u8], r: Registers, v: Slot, u: Slot) -> Option<Registers>
     requires { Busy w.old r × (v.kind ≡ 5 → ⊥) × (u.kind ≡ 5 → ⊥) }
     ensures { Tried (push_two (value_in v) (value_in u)) w.old r w.new result }
 {
     let height = r.height;
     if height >= 127 {
-        return failed(r);
+        return None;
     }
     table::slots::put(w, height, v);
     table::slots::put(w, height + 1, u);
-    let mut q = r;
-    q.height = height + 2;
-    q.ok = true;
-    q
+    Some(Registers {
+        height: height + 2,
+        ..r
+    })
 }
 
 // Two numbers, the second on top.
-pub fn push_two(w: &mut [u8], r: Registers, a: numbers::Number, b: numbers::Number) -> Registers
+pub fn push_two(
+    w: &mut [u8],
+    r: Registers,
+    a: numbers::Number,
+    b: numbers::Number,
+) -> Option<Registers>
     requires { Busy w.old r }
     ensures { Tried (push_two (Number a) (Number b)) w.old r w.new result }
 {
@@ -149,23 +145,25 @@ pub fn push_two(w: &mut [u8], r: Registers, a: numbers::Number, b: numbers::Numb
 }
 
 // EXCH: the two topmost values change places.
-pub fn exchange(w: &mut [u8], r: Registers) -> Registers
+pub fn exchange(w: &mut [u8], r: Registers) -> Option<Registers>
     requires { Busy w.old r }
     ensures { Tried (turn 2 1) w.old r w.new result }
 {
     let t = tops(w, r.height);
     if t.count < 2 {
-        return failed(r);
+        return None;
     }
     let x = crate::values::plain(t.first);
     let y = crate::values::plain(t.second);
-    let mut q = r;
-    q.height = r.height - 2;
+    let q = Registers {
+        height: r.height - 2,
+        ..r
+    };
     push_slots(w, q, x, y)
 }
 
 // COPY: the topmost n values once more.
-pub fn repeat(w: &mut [u8], r: Registers, n: usize) -> Registers
+pub fn repeat(w: &mut [u8], r: Registers, n: usize) -> Option<Registers>
     requires { Busy w.old r }
     ensures { Tried (repeat n) w.old r w.new result }
 {
@@ -173,15 +171,15 @@ pub fn repeat(w: &mut [u8], r: Registers, n: usize) -> Registers
     let there = has(w, height, n);
     if there {
         if height + n > 128 {
-            return failed(r);
+            return None;
         }
         table::slots::copy(w, height - n, height, n);
-        let mut q = r;
-        q.height = height + n;
-        q.ok = true;
-        return q;
+        return Some(Registers {
+            height: height + n,
+            ..r
+        });
     }
-    failed(r)
+    None
 }
 
 // Of the n slots from a on the upper j go under the others, by way of the room for entries.
@@ -195,7 +193,7 @@ fn put_turned(w: &mut [u8], a: usize, n: usize, j: usize)
 }
 
 // ROLL: of the topmost n values the first m pushed become the topmost.
-pub fn turn(w: &mut [u8], r: Registers, n: usize, m: usize) -> Registers
+pub fn turn(w: &mut [u8], r: Registers, n: usize, m: usize) -> Option<Registers>
     requires { Busy w.old r }
     ensures { Tried (turn n m) w.old r w.new result }
 {
@@ -204,11 +202,9 @@ pub fn turn(w: &mut [u8], r: Registers, n: usize, m: usize) -> Registers
     if there {
         let j = under(n, m);
         put_turned(w, height - n, n, j);
-        let mut q = r;
-        q.ok = true;
-        return q;
+        return Some(r);
     }
-    failed(r)
+    None
 }
 
 // How many of n go under m others.

@@ -12,6 +12,7 @@ use lib.ListN.{length, get_or, set, take, length-set, length-append}
 use lib.Seq.{get_or-set_same, get_or-set_other}
 use mir.Syntax.{w32}
 use mir.Facts.{to_z_pos}
+use Rattle.std.specs.Prelude.{Some, None}
 use Rattle.table.specs.declared.Slot.{Slot}
 use Rattle.table.specs.Slots.{nil, mk, slots, asc, desc, copied}
 use Rattle.table.proofs.SlotLists.{roomy}
@@ -22,7 +23,7 @@ use Rattle.machine.specs.State.{Entry, val, mark, State, running}
 use Rattle.machine.specs.Contexts.{above, over}
 use Rattle.machine.specs.Engine.{fits, limited, provided, charge, build, compose, place}
 use Rattle.state.specs.declared.Registers.{Registers}
-use Rattle.state.specs.Layout.{value_in, entry_in, stack_of, values_at, frame_of, context_in, abs, Busy, Tried}
+use Rattle.state.specs.Layout.{value_in, entry_in, stack_of, values_at, frame_of, context_in, abs, Busy, Perhaps, Tried}
 use lib.ListN.{length-map}
 use lib.Seq.{sets, length-sets, slice, slice-cons}
 use Rattle.tokens.specs.Joined.{Joined, whole, cut_at, data_of, joined_at, FitsText}
@@ -36,7 +37,7 @@ use Rattle.state.proofs.Parts.{wide, room_of_lem, stack_same, values_same, lent_
 use Rattle.state.proofs.Ending.{state_path}
 use Rattle.state.proofs.Cutting.{over_take, over_above, over_drop, stack_taken, stack_dropped, values_moved, values_cut}
 use Rattle.state.proofs.Framing.{frame_inside}
-use Rattle.state.proofs.Trying.{trying, failed, tried_no, tried_yes, fits_abs}
+use Rattle.state.proofs.Trying.{trying, tried_no, tried_yes, fits_abs}
 use Rattle.state.proofs.Stacking.{above_few, enough, few}
 
 -- ---- another stack and other cells
@@ -90,7 +91,7 @@ module _ {w : List ℕ} {r : Registers} (a n : ℕ) (v : Slot) (e : Value) (new 
     put_high : (x y : ℕ) → 1752 ≤ x → y ≤ 1814 → Same (slots w') (slots w) x y
     put_high x y l f = rw p (same_then (set m₁ a v) m₁ (slots w) x y (same_set m₁ a v x y (inl (omega arith))) (λ k s t. high k (omega arith) (omega arith)))
 
-    charged_abs : abs w' (trying r (a + 1) r.depth (r.used + n) true) ≡ with_cells (val e ∷ stack_of (slots w) a) (values_at (slots w) 728 r.used ++ new) (abs w r)
+    charged_abs : abs w' (trying r (a + 1) r.depth (r.used + n)) ≡ with_cells (val e ∷ stack_of (slots w) a) (values_at (slots w) 728 r.used ++ new) (abs w r)
     charged_abs =
         let m = slots w in
         let m' = set m₁ a v in
@@ -105,29 +106,29 @@ module _ {w : List ℕ} {r : Registers} (a n : ℕ) (v : Slot) (e : Value) (new 
     charged_room : 48000 ≤ length w'
     charged_room = room_of_lem w' (set m₁ a v) p (rw (length-set, long) (wide w g.room))
 
-    charged_tried : (f : State → Option State) {r' : Registers} → f (abs w r) ≡ limited (with_cells (val e ∷ stack_of (slots w) a) (values_at (slots w) 728 r.used ++ new) (abs w r))
-        → r' ≡ trying r (a + 1) r.depth (r.used + n) true → Tried f w r w' r'
+    charged_tried : (f : State → Option State) {r' : Perhaps} → f (abs w r) ≡ limited (with_cells (val e ∷ stack_of (slots w) a) (values_at (slots w) 728 r.used ++ new) (abs w r))
+        → r' ≡ Some (trying r (a + 1) r.depth (r.used + n)) → Tried f w r w' r'
     charged_tried f {r'} meant q =
         let rm = charged_room in
         rw q (tried_yes (omega (arith, lent_same (slots w') (slots w) r.depth (put_high 1752 _ (omega arith) (omega arith)))) (aside_same w' w (put_high 1764 1814 (omega arith) (omega arith))) refl refl
-        (meant ∙ (rw (← charged_abs) (fits_abs w' (trying r (a + 1) r.depth (r.used + n) true) (omega arith) g.depth_fits room₁))))
+        (meant ∙ (rw (← charged_abs) (fits_abs w' (trying r (a + 1) r.depth (r.used + n)) (omega arith) g.depth_fits room₁))))
 
 -- a charge that fails
 module _ {w : List ℕ} {r : Registers} (f : State → Option State) (s : List Entry) (cells : List Value) (g : Busy w r) (meant : f (abs w r) ≡ limited (with_cells s cells (abs w r))) where
-  charge_full : {r' : Registers} → 128 < length s → r' ≡ failed r → Tried f w r w r'
+  charge_full : {r' : Perhaps} → 128 < length s → r' ≡ None → Tried f w r w r'
   unfolding limited fits
-  charge_full {r'} h q = tried_no g (meant ∙ (rw (lt-leb (length s) 128 h))) q
+  charge_full {r'} h q = tried_no (meant ∙ (rw (lt-leb (length s) 128 h))) q
 
-  charge_over : {r' : Registers} → length s ≤ 128 → 1024 < length cells → r' ≡ failed r → Tried f w r w r'
+  charge_over : {r' : Perhaps} → length s ≤ 128 → 1024 < length cells → r' ≡ None → Tried f w r w r'
   unfolding limited fits
-  charge_over {r'} l h q = tried_no g (meant ∙ (rw (le-leb (length s) 128 l, length_contexts, le-leb r.depth 12 g.depth_fits, lt-leb (length cells) 1024 h))) q
+  charge_over {r'} l h q = tried_no (meant ∙ (rw (le-leb (length s) 128 l, length_contexts, le-leb r.depth 12 g.depth_fits, lt-leb (length cells) 1024 h))) q
 
 cells_long : (w : List ℕ) (u b n : ℕ) → length (values_at (slots w) 728 u ++ values_at (slots w) b n) ≡ u + n
 cells_long w u b n = rw (length-append, length_values (slots w) 728 u, length_values (slots w) b n)
 
 -- ---- a vector put
 
-pub vector_put : (a lower n f c : ℕ) (w : List ℕ) (r : Registers) (w' : List ℕ) (r' : Registers) → f ≡ r.used → c ≡ n → slots w' ≡ set (slots w) a (mk 3 f lower c 0) → r' ≡ trying r (a + 1) r.depth (r.used + n) true → VectorPut a lower n w r w' r'
+pub vector_put : (a lower n f c : ℕ) (w : List ℕ) (r : Registers) (w' : List ℕ) (r' : Registers) → f ≡ r.used → c ≡ n → slots w' ≡ set (slots w) a (mk 3 f lower c 0) → r' ≡ Some (trying r (a + 1) r.depth (r.used + n)) → VectorPut a lower n w r w' r'
 vector_put a lower n f c w r w' r' ef ec p q = record { put = rw (← ef, ← ec) p; registers = q }
 
 -- ---- MAKEVEC
@@ -137,14 +138,14 @@ unfolding entry_in
 vector_entry f l n h i k = ap val (vector_slot f l n h i k)
 
 module _ {w : List ℕ} {r : Registers} (lower n : ℕ) (g : Busy w r) where
-  pub build_short : {r' : Registers} → r.height < n → r' ≡ failed r → Tried (build lower n) w r w r'
+  pub build_short : {r' : Perhaps} → r.height < n → r' ≡ None → Tried (build lower n) w r w r'
   unfolding build provided
-  build_short {r'} h q = tried_no g (rw (lt-leb n (length (above (stack_of (slots w) r.height))) (omega (arith, above_few (stack_of (slots w) r.height), length_stack (slots w) r.height)))) q
+  build_short {r'} h q = tried_no (rw (lt-leb n (length (above (stack_of (slots w) r.height))) (omega (arith, above_few (stack_of (slots w) r.height), length_stack (slots w) r.height)))) q
 
   module _ (b : Bool) (eb : b ≡ leb n (length (above (stack_of (slots w) r.height)))) where
-    pub build_few : {r' : Registers} → b ≡ false → r' ≡ failed r → Tried (build lower n) w r w r'
+    pub build_few : {r' : Perhaps} → b ≡ false → r' ≡ None → Tried (build lower n) w r w r'
     unfolding build provided
-    build_few {r'} h q = tried_no g (rw (← eb, h)) q
+    build_few {r'} h q = tried_no (rw (← eb, h)) q
 
     module _ (there : b ≡ true) where
       build_is : build lower n (abs w r) ≡ limited (with_cells (val (Vector r.used lower n) ∷ stack_of (slots w) (r.height - n)) (values_at (slots w) 728 r.used ++ values_at (slots w) (r.height - n) n) (abs w r))
@@ -154,14 +155,14 @@ module _ {w : List ℕ} {r : Registers} (lower n : ℕ) (g : Busy w r) where
           let l = few n b g eb there in
           rw (← eb, there, length_values, over_drop (stack_of (slots w) r.height) n en, stack_dropped (slots w) n r.height l, charged (slots w) n r.height l en)
 
-      pub build_full : {r' : Registers} → 128 + n ≤ r.height → r' ≡ failed r → Tried (build lower n) w r w r'
+      pub build_full : {r' : Perhaps} → 128 + n ≤ r.height → r' ≡ None → Tried (build lower n) w r w r'
       build_full {r'} f q = charge_full (build lower n) _ _ g build_is (omega (arith, length_stack (slots w) (r.height - n))) q
 
       module _ (st : r.height < 128 + n) where
-        pub build_over : {r' : Registers} → 1024 < r.used + n → r' ≡ failed r → Tried (build lower n) w r w r'
+        pub build_over : {r' : Perhaps} → 1024 < r.used + n → r' ≡ None → Tried (build lower n) w r w r'
         build_over {r'} f q = charge_over (build lower n) _ _ g build_is (omega (arith, length_stack (slots w) (r.height - n))) (omega (arith, cells_long w r.used (r.height - n) n)) q
 
-        pub build_yes : {w' : List ℕ} {r' : Registers} (w₁ : List ℕ) → lower < 2147483648 → r.used + n ≤ 1024 → slots w₁ ≡ copied (slots w) (r.height - n) (728 + r.used) n → VectorPut (r.height - n) lower n w₁ r w' r' → Tried (build lower n) w r w' r'
+        pub build_yes : {w' : List ℕ} {r' : Perhaps} (w₁ : List ℕ) → lower < 2147483648 → r.used + n ≤ 1024 → slots w₁ ≡ copied (slots w) (r.height - n) (728 + r.used) n → VectorPut (r.height - n) lower n w₁ r w' r' → Tried (build lower n) w r w' r'
         build_yes {w'} {r'} w₁ small u p₁ v =
             let m = slots w in
             let a = r.height - n in
@@ -183,15 +184,15 @@ module _ {w : List ℕ} {r : Registers} (s l : ℕ) (g : Busy w r) where
   unfolding compose charge running context_in over
   compose_is c got = rw (length_values, contexts_at (slots w) r.depth c g.runs got, over_above (stack_of (slots w) r.height))
 
-  pub compose_full : {r' : Registers} → 128 ≤ r.height → r' ≡ failed r → Tried (compose s l) w r w r'
+  pub compose_full : {r' : Perhaps} → 128 ≤ r.height → r' ≡ None → Tried (compose s l) w r w r'
   compose_full {r'} f q = charge_full (compose s l) _ _ g (compose_is _ refl) (omega (arith, length_stack (slots w) r.height)) q
 
   module _ (st : r.height < 128) where
-    pub compose_over : {r' : Registers} → 1024 < r.used + 50 → r' ≡ failed r → Tried (compose s l) w r w r'
+    pub compose_over : {r' : Perhaps} → 1024 < r.used + 50 → r' ≡ None → Tried (compose s l) w r w r'
     compose_over {r'} f q = charge_over (compose s l) _ _ g (compose_is _ refl) (omega (arith, length_stack (slots w) r.height)) (omega (arith, cells_long w r.used (frame_of (get_or (slots w) (1752 + (r.depth - 1)) nil)) 50)) q
 
-    pub compose_yes : {w' : List ℕ} {r' : Registers} (w₁ : List ℕ) (f : ℕ) (c : Slot) → r.used + 50 ≤ 1024 → c ≡ get_or (slots w) (1752 + (r.depth - 1)) nil → slots w₁ ≡ copied (slots w) (frame_of c) (728 + r.used) 50 → f ≡ r.used → slots w' ≡ set (slots w₁) r.height (mk 4 c.a s l f)
-        → r' ≡ trying r (r.height + 1) r.depth (r.used + 50) true → Tried (compose s l) w r w' r'
+    pub compose_yes : {w' : List ℕ} {r' : Perhaps} (w₁ : List ℕ) (f : ℕ) (c : Slot) → r.used + 50 ≤ 1024 → c ≡ get_or (slots w) (1752 + (r.depth - 1)) nil → slots w₁ ≡ copied (slots w) (frame_of c) (728 + r.used) 50 → f ≡ r.used → slots w' ≡ set (slots w₁) r.height (mk 4 c.a s l f)
+        → r' ≡ Some (trying r (r.height + 1) r.depth (r.used + 50)) → Tried (compose s l) w r w' r'
     compose_yes {w'} {r'} w₁ f c u got p₁ ef p q =
         let m = slots w in
         let a = frame_of c in
@@ -264,18 +265,18 @@ module _ {w : List ℕ} {r : Registers} (b : List ℕ) (at n : ℕ) (g : Busy w 
   unfolding spell charge letters_at over spelt
   spell_is = rw (length_values, numbers_long, ← en, over_above (stack_of (slots w) r.height))
 
-  pub spell_full : {r' : Registers} → 128 ≤ r.height → r' ≡ failed r → Tried (spell b at) w r w r'
+  pub spell_full : {r' : Perhaps} → 128 ≤ r.height → r' ≡ None → Tried (spell b at) w r w r'
   spell_full {r'} f q = charge_full (spell b at) _ _ g spell_is (omega (arith, length_stack (slots w) r.height)) q
 
   module _ (st : r.height < 128) where
-    pub spell_over : {r' : Registers} → 1024 - r.used < n → r' ≡ failed r → Tried (spell b at) w r w r'
+    pub spell_over : {r' : Perhaps} → 1024 - r.used < n → r' ≡ None → Tried (spell b at) w r w r'
     unfolding spelt
     spell_over {r'} f q =
         let l : length (values_at (slots w) 728 r.used ++ numbers (data_of (joined_at b at))) ≡ r.used + n = rw (length-append, length_values (slots w) 728 r.used, numbers_long) (ap (λ k. r.used + k) (sym en)) in
         charge_over (spell b at) _ _ g spell_is (omega (arith, length_stack (slots w) r.height)) (omega arith) q
 
     module _ (ok : n ≤ 1024 - r.used) (bytes : Bytes b) where
-      pub spell_yes : {w' : List ℕ} {r' : Registers} (w₁ : List ℕ) → slots w₁ ≡ sets (slots w) (728 + r.used) (letter_slots (data_of (joined_at b at))) → VectorPut r.height 0 n w₁ r w' r' → Tried (spell b at) w r w' r'
+      pub spell_yes : {w' : List ℕ} {r' : Perhaps} (w₁ : List ℕ) → slots w₁ ≡ sets (slots w) (728 + r.used) (letter_slots (data_of (joined_at b at))) → VectorPut r.height 0 n w₁ r w' r' → Tried (spell b at) w r w' r'
       unfolding spelt
       spell_yes {w'} {r'} w₁ p₁ v =
           let m = slots w in

@@ -9,7 +9,7 @@ use state::Registers;
 use table::Slot;
 
 // GET: the cell k is pushed.
-pub fn element(w: &mut [u8], r: Registers, k: usize) -> Registers
+pub fn element(w: &mut [u8], r: Registers, k: usize) -> Option<Registers>
     requires { Busy w.old r }
     ensures { Tried (element k) w.old r w.new result }
 {
@@ -39,40 +39,36 @@ pub fn put_vector(w: &mut [u8], r: Registers, a: usize, lower: u32, n: usize) ->
             d: 0,
         },
     );
-    let mut q = r;
-    q.height = a + 1;
-    q.used = r.used + n;
-    q.ok = true;
-    q
+    Some(Registers { height: a + 1, used: r.used + n, ..r })
 }
 
 // MAKEVEC and MAKEVECLU: the topmost n values become cells, and a vector of them takes their place.
-pub fn build(w: &mut [u8], r: Registers, lower: u32, n: usize) -> Registers
+pub fn build(w: &mut [u8], r: Registers, lower: u32, n: usize) -> Option<Registers>
     requires { Busy w.old r × (lower < 2147483648) }
     ensures { Tried (build lower n) w.old r w.new result }
 {
     let height = r.height;
     let used = r.used;
     if n > height {
-        return state::stack::failed(r);
+        return None;
     }
     let there = state::stack::has(w, height, n);
     if there {
         if height >= 128 + n {
-            return state::stack::failed(r);
+            return None;
         }
         if used + n > 1024 {
-            return state::stack::failed(r);
+            return None;
         }
         let a = height - n;
         table::slots::copy(w, a, 728 + used, n);
         return put_vector(w, r, a, lower, n);
     }
-    state::stack::failed(r)
+    None
 }
 
 // MAKESIMPLECO: the running frame becomes 50 cells, and an operator that keeps them is pushed.
-pub fn compose(w: &mut [u8], r: Registers, start: u32, len: u32) -> Registers
+pub fn compose(w: &mut [u8], r: Registers, start: u32, len: u32) -> Option<Registers>
     requires { Busy w.old r }
     ensures { Tried (compose start len) w.old r w.new result }
 {
@@ -80,10 +76,10 @@ pub fn compose(w: &mut [u8], r: Registers, start: u32, len: u32) -> Registers
     let used = r.used;
     let d = r.depth;
     if height >= 128 {
-        return state::stack::failed(r);
+        return None;
     }
     if used + 50 > 1024 {
-        return state::stack::failed(r);
+        return None;
     }
     let c = table::slots::get(w, 1752 + (d - 1));
     table::slots::copy_long(w, 128 + table::words::size(c.d % 4096), 728 + used, 50);
@@ -99,11 +95,7 @@ pub fn compose(w: &mut [u8], r: Registers, start: u32, len: u32) -> Registers
             d: first,
         },
     );
-    let mut q = r;
-    q.height = height + 1;
-    q.used = used + 50;
-    q.ok = true;
-    q
+    Some(Registers { height: height + 1, used: used + 50, ..r })
 }
 
 // The slot holds a Cardinal: an integer from 0 to 16777215.

@@ -66,7 +66,7 @@ fn put_letters(w: &mut [u8], k: usize, b: &[u8], at: usize, n: usize)
 }
 
 // The string token at `at` of the bytes b becomes a vector.
-pub fn spell(w: &mut [u8], r: Registers, b: &[u8], at: usize) -> Registers
+pub fn spell(w: &mut [u8], r: Registers, b: &[u8], at: usize) -> Option<Registers>
     requires { Busy w.old r }
     ensures { Tried (spell b.now at) w.old r w.new result }
 {
@@ -74,10 +74,10 @@ pub fn spell(w: &mut [u8], r: Registers, b: &[u8], at: usize) -> Registers
     let used = r.used;
     let n = pieces::sequences::data_size(b, at);
     if height >= 128 {
-        return state::stack::failed(r);
+        return None;
     }
     if n > 1024 - used {
-        return state::stack::failed(r);
+        return None;
     }
     put_letters(w, 728 + used, b, at, n);
     crate::cells::put_vector(w, r, height, 0, n)

@@ -5,7 +5,7 @@ use Rattle.state.proofs.Stacking.{exchange_few, tops_fit, exchange_yes}
 use Rattle.state.proofs.stack.exchange.Goals as goal
 
 pub returns-then-t-lt2 : goal.returns-then-t-lt2
-returns-then-t-lt2 c = exchange_few _ c.requires c.tops-t.ensures c.if-t-lt2.true c.failed.ensures
+returns-then-t-lt2 c = exchange_few _ c.requires c.tops-t.ensures c.if-t-lt2.true refl
 
 pub overflow_sub-q : goal.overflow_sub-q
 overflow_sub-q c = tops_fit _ _ 2 _ c.tops-t.ensures c.if-t-lt2.false

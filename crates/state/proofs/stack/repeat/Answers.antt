@@ -17,8 +17,8 @@ pub copy-requires : goal.copy-requires
 copy-requires c =
     (omega (arith, few _ _ c.requires c.has-there.ensures c.if-there.true), omega (arith, few _ _ c.requires c.has-there.ensures c.if-there.true))
 
-pub overflow_add-q : goal.overflow_add-q
-overflow_add-q c = omega (arith, few _ _ c.requires c.has-there.ensures c.if-there.true)
+pub overflow_add-result : goal.overflow_add-result
+overflow_add-result c = omega (arith, few _ _ c.requires c.has-there.ensures c.if-there.true)
 
 pub returns-then-there : goal.returns-then-there
 returns-then-there c = search (rules, repeat_yes)
