@@ -53,7 +53,14 @@ pub fn running(w: &[u8], depth: usize) -> Place
 }
 
 // A body entered from `at` to `end`, with the last word of its context, which says where its frame lies.
-fn enter_on(w: &mut [u8], r: Registers, origin: u32, at: u32, end: u32, word: u32) -> Option<Registers>
+fn enter_on(
+    w: &mut [u8],
+    r: Registers,
+    origin: u32,
+    at: u32,
+    end: u32,
+    word: u32,
+) -> Option<Registers>
     requires { Busy w.old r × (r.depth < 12 → lent_by r.depth (word % 4096) ≤ r.used) }
     ensures { Tried (enter_on (slots w.old) origin at end word) w.old r w.new result }
 {
@@ -85,7 +92,14 @@ pub fn inline(w: &mut [u8], r: Registers, at: u32, end: u32, owes: bool) -> Opti
 }
 
 // A body entered on the frame that stands in the cells from `first` on.
-pub fn call(w: &mut [u8], r: Registers, origin: u32, at: u32, end: u32, first: usize) -> Option<Registers>
+pub fn call(
+    w: &mut [u8],
+    r: Registers,
+    origin: u32,
+    at: u32,
+    end: u32,
+    first: usize,
+) -> Option<Registers>
     requires { Busy w.old r × (first + 50 ≤ r.used) }
     ensures { Tried (call origin at end first) w.old r w.new result }
 {

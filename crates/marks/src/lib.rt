@@ -57,7 +57,10 @@ pub fn place(w: &mut [u8], r: Registers, n: usize) -> Option<Registers>
         let d = r.depth;
         let c = table::slots::get(w, 1752 + (d - 1));
         put_mark(w, height - n, n, c.kind);
-        return Some(Registers { height: height + 1, ..r });
+        return Some(Registers {
+            height: height + 1,
+            ..r
+        });
     }
     None
 }
@@ -73,7 +76,10 @@ pub fn place_bare(w: &mut [u8], r: Registers) -> Option<Registers>
     }
     let c = table::slots::get(w, 1752 + (r.depth - 1));
     put_mark(w, height, 0, c.kind);
-    Some(Registers { height: height + 1, ..r })
+    Some(Registers {
+        height: height + 1,
+        ..r
+    })
 }
 
 // UNMARK: the running context's own mark, with exactly n values above it.
@@ -97,7 +103,10 @@ pub fn remove(w: &mut [u8], r: Registers, n: usize) -> Option<Registers>
             return None;
         }
         table::slots::copy(w, height - n, height - n - 1, n);
-        return Some(Registers { height: height - 1, ..r });
+        return Some(Registers {
+            height: height - 1,
+            ..r
+        });
     }
     None
 }

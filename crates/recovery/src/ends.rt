@@ -55,12 +55,13 @@ pub fn fault(w: &[u8], r: Registers) -> Registers
     ensures { Done fault w.now r w.now result }
 {
     let p = landing(w, r.height, r.depth);
-    let mut q = r;
-    q.height = p.height;
-    q.depth = p.depth;
-    q.errors = r.errors + 1;
-    q.skipping = true;
-    q
+    Registers {
+        height: p.height,
+        depth: p.depth,
+        errors: r.errors + 1,
+        skipping: true,
+        ..r
+    }
 }
 
 // After a literal that did not fail: contexts that have ended are left, and the 0 that an IFELSE owes is pushed.
@@ -102,8 +103,9 @@ pub fn skipped(w: &[u8], r: Registers) -> Registers
         return r;
     }
     let p = landing(w, r.height, d - 1);
-    let mut q = r;
-    q.height = p.height;
-    q.depth = p.depth;
-    q
+    Registers {
+        height: p.height,
+        depth: p.depth,
+        ..r
+    }
 }

@@ -39,7 +39,7 @@ pub fn put_vector(w: &mut [u8], r: Registers, a: usize, lower: u32, n: usize) ->
             d: 0,
         },
     );
-    Some(Registers { height: a + 1, used: r.used + n, ..r })
+    Registers { height: a + 1, used: r.used + n, ..r }
 }
 
 // MAKEVEC and MAKEVECLU: the topmost n values become cells, and a vector of them takes their place.
@@ -62,7 +62,7 @@ pub fn build(w: &mut [u8], r: Registers, lower: u32, n: usize) -> Option<Registe
         }
         let a = height - n;
         table::slots::copy(w, a, 728 + used, n);
-        return put_vector(w, r, a, lower, n);
+        return Some(put_vector(w, r, a, lower, n));
     }
     None
 }

@@ -80,5 +80,5 @@ pub fn spell(w: &mut [u8], r: Registers, b: &[u8], at: usize) -> Option<Register
         return None;
     }
     put_letters(w, 728 + used, b, at, n);
-    crate::cells::put_vector(w, r, height, 0, n)
+    Some(crate::cells::put_vector(w, r, height, 0, n))
 }

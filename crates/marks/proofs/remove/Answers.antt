@@ -12,7 +12,7 @@ returns-then-v-ne5 c = search (rules, remove_value)
 
 pub returns-then-v-c : goal.returns-then-v-c
 returns-then-v-c c =
-    remove_other _ c.requires _ c.has-there.ensures c.if-there.true _ c.get-v.ensures c.if-n-height.false c.if-v-ne5.false _ c.get-c.ensures c.if-v-c.true c.failed-then-v-c.ensures
+    remove_other _ c.requires _ c.has-there.ensures c.if-there.true _ c.get-v.ensures c.if-n-height.false c.if-v-ne5.false _ c.get-c.ensures c.if-v-c.true refl
 
 pub returns-then-there : goal.returns-then-there
 returns-then-there c =

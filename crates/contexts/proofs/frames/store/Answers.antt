@@ -16,4 +16,4 @@ returns-then-j-ge50 c = search (rules, store_far)
 
 pub returns : goal.returns
 returns c =
-    store_after c.own.ensures refl (store_yes c.args.j c.own.ensures.busy _ (c.get-v.ensures ∙ sym (c.own.ensures.stands _ (omega (arith, c.requires.stack_fits, c.if-height-eq0.false)))) c.if-height-eq0.false c.if-v-eq5.false c.own.ensures.own c.if-j-ge50.false c.put.ensures refl)
+    store_after c.own.ensures (store_yes c.args.j c.own.ensures.busy _ (c.get-v.ensures ∙ sym (c.own.ensures.stands _ (omega (arith, c.requires.stack_fits, c.if-height-eq0.false)))) c.if-height-eq0.false c.if-v-eq5.false c.own.ensures.own c.if-j-ge50.false c.put.ensures refl)
