@@ -31,10 +31,10 @@ use Rattle.operands.specs.Sizes.{SizedWork, SizedNext, Sized}
 use Rattle.names.specs.Names.{both, data_at, same_text}
 use Rattle.state.specs.declared.Place as at
 use Rattle.state.specs.declared.Registers.{Registers}
-use Rattle.state.specs.Layout.{values_at, stack_of, Busy, Tried}
+use Rattle.state.specs.Layout.{values_at, stack_of, Busy, Perhaps, Tried}
 use Rattle.state.specs.Operations as table
 use Rattle.state.proofs.Parts.{length_stack}
-use Rattle.state.proofs.Trying.{trying, failed, tried_no, tried_yes, tried_as, fits_abs}
+use Rattle.state.proofs.Trying.{trying, tried_no, tried_yes, tried_as, fits_abs}
 use Rattle.origins.proofs.ByOrigin.{empty}
 
 -- ---- texts
@@ -75,14 +75,14 @@ no_elements (Operator o s l f) cells n = refl
 
 pub nothing_done : {w : List ℕ} {r : Registers} {r' : Perhaps} (code : Code) → Busy w r → r' ≡ Some (trying r r.height r.depth r.used) → Tried (worked code Nothing) w r w r'
 unfolding worked
-nothing_done {w} {r} {r'} code g q = rw q (tried_yes (omega arith) refl refl refl (fits_abs w r g.stack_fits g.depth_fits g.cells_fit))
+nothing_done {w} {r} {r'} code g q = rw q (tried_yes (omega arith) refl refl (fits_abs w r g.stack_fits g.depth_fits g.cells_fit))
 
-module _ {w : List ℕ} {r r' : Registers} (v : Value) (g : Busy w r) where
+module _ {w : List ℕ} {r : Registers} {r' : Perhaps} (v : Value) (g : Busy w r) where
   module _ (f l c : ℕ) (i : v ≡ Vector f l c) (f' c' : ℕ) (ef : f' ≡ f) (ec : c' ≡ c) (b : Bool) (e : b ≡ all_cardinals (take c' (drop f' (values_at (slots w) 728 r.used)))) where
     pub report_all : b ≡ true → r' ≡ Some (trying r r.height r.depth r.used) → (code : Code) → Tried (worked code (Report v)) w r w r'
     unfolding worked provided elements_of
     report_all h q code =
-        rw q (tried_yes (omega arith) refl refl refl (rw (i, ← ef, ← ec, ← e, h) (fits_abs w r g.stack_fits g.depth_fits g.cells_fit)))
+        rw q (tried_yes (omega arith) refl refl (rw (i, ← ef, ← ec, ← e, h) (fits_abs w r g.stack_fits g.depth_fits g.cells_fit)))
 
     pub report_other : b ≡ false → r' ≡ None → (code : Code) → Tried (worked code (Report v)) w r w r'
     unfolding worked provided elements_of
@@ -90,7 +90,7 @@ module _ {w : List ℕ} {r r' : Registers} (v : Value) (g : Busy w r) where
 
   none_there : (code : Code) → elements_of v (values_at (slots w) 728 r.used) ≡ [] → r' ≡ Some (trying r r.height r.depth r.used) → Tried (worked code (Report v)) w r w r'
   unfolding worked provided all_cardinals
-  none_there code e q = rw q (tried_yes (omega arith) refl refl refl (rw e (fits_abs w r g.stack_fits g.depth_fits g.cells_fit)))
+  none_there code e q = rw q (tried_yes (omega arith) refl refl (rw e (fits_abs w r g.stack_fits g.depth_fits g.cells_fit)))
 
   pub report_none : NoVector v → r' ≡ Some (trying r r.height r.depth r.used) → (code : Code) → Tried (worked code (Report v)) w r w r'
   report_none n q code = none_there code (no_elements v _ n) q
@@ -111,7 +111,7 @@ sized_acts e x h i = rw i at h
 
 -- ---- the works
 
-module _ {w w' : List ℕ} {r r' : Registers} (code : Code) (x : Work) where
+module _ {w w' : List ℕ} {r : Registers} {r' : Perhaps} (code : Code) (x : Work) where
   pub at_nothing : x ≡ Nothing → Tried (worked code Nothing) w r w' r' → Tried (worked code x) w r w' r'
   at_nothing e t = rw e t
 
@@ -155,7 +155,7 @@ module _ {w w' : List ℕ} {r r' : Registers} (code : Code) (x : Work) where
 
 -- ---- the engine's parts
 
-module _ {w w' : List ℕ} {r r' : Registers} (code : Code) (x : Next) where
+module _ {w w' : List ℕ} {r : Registers} {r' : Perhaps} (code : Code) (x : Next) where
   pub by_works : (k : Work) → x ≡ Works k → Tried (worked code k) w r w' r' → Tried (does code x) w r w' r'
   unfolding does
   by_works k e t = rw e t
@@ -191,7 +191,7 @@ module _ {w : List ℕ} {r : Registers} (code : Code) (e : Option Effect) where
   unfolding affected
   is_fail {r'} g i q = tried_no (rw i) q
 
-  module _ {w' : List ℕ} {r' : Registers} where
+  module _ {w' : List ℕ} {r' : Perhaps} where
     pub is_gives : (a : num.Number) → e ≡ Some (Gives a) → Tried (push (Number a)) w r w' r' → Tried (affected code e) w r w' r'
     unfolding affected
     is_gives a i t = rw i t

@@ -30,9 +30,9 @@ use Rattle.machine.specs.Step.{effect_at, execute}
 use Rattle.operands.specs.Sizes.{Small}
 use Rattle.state.specs.declared.Registers.{Registers}
 use Rattle.state.specs.declared.Tops.{Tops}
-use Rattle.state.specs.Layout.{half, value_in, stack_of, abs, Busy, answer, Tried, Topmost}
+use Rattle.state.specs.Layout.{half, value_in, stack_of, abs, Busy, Perhaps, Tried, Topmost}
 use Rattle.state.proofs.Parts.{length_stack}
-use Rattle.state.proofs.Trying.{trying, failed, tried_no, tried_from, pops_is}
+use Rattle.state.proofs.Trying.{trying, tried_no, tried_from, pops_is}
 use Rattle.state.proofs.Stacking.{above_few, fewer, enough_there}
 use Rattle.effects.proofs.Acting.{is_fail}
 
@@ -55,17 +55,17 @@ module _ {w : List ℕ} {r : Registers} (code : Code) (x : Literal) (a : ℕ) (t
       let c = et.count in
       tried_no (rw (← ea, lt-leb a (length (above (stack_of (slots w) r.height))) (fewer (above (stack_of (slots w) r.height)) a two (omega arith)))) q
 
-  exec_done : {w' : List ℕ} {q r' : Registers} (e : Option Effect) → a ≤ t.count → e ≡ effect_at x (abs w r) → q ≡ trying r (r.height - a) r.depth r.used r.ok → Tried (affected code e) w q w' r' → Tried (execute code x) w r w' r'
+  exec_done : {w' : List ℕ} {q : Registers} {r' : Perhaps} (e : Option Effect) → a ≤ t.count → e ≡ effect_at x (abs w r) → q ≡ trying r (r.height - a) r.depth r.used → Tried (affected code e) w q w' r' → Tried (execute code x) w r w' r'
   unfolding execute provided
   exec_done {w'} {q} {r'} e h i eq d =
       let c = et.count in
       let k = length (above (stack_of (slots w) r.height)) in
       let l : a ≤ k = enough_there (above (stack_of (slots w) r.height)) a (omega arith) in
       let z : k ≤ r.height = omega (arith, above_few (stack_of (slots w) r.height), length_stack (slots w) r.height) in
-      tried_from (rw (← ea, le-leb a k l, ← i, eq, pops_is w r a k r.ok l z refl)) (rw eq) d
+      tried_from (rw (← ea, le-leb a k l, ← i, eq, pops_is w r a k l z refl)) (rw eq) d
 
 -- values popped
-pub busy_lower : {w : List ℕ} {r q : Registers} (a : ℕ) → Busy w r → q ≡ trying r (r.height - a) r.depth r.used r.ok → Busy w q
+pub busy_lower : {w : List ℕ} {r q : Registers} (a : ℕ) → Busy w r → q ≡ trying r (r.height - a) r.depth r.used → Busy w q
 busy_lower a g e = rw e (omega arith)
 
 -- ---- an operator without a body
@@ -83,16 +83,15 @@ module _ {w : List ℕ} {r : Registers} (code : Code) (n a : ℕ) (o : Op) (t : 
     unfolding effect_at performed
     plain_effect = ee ∙ (rw (← eo, ← et.first, ← et.second, ex, ey))
 
-    module _ {w' : List ℕ} {q r' : Registers} (eq : q ≡ trying r (r.height - a) r.depth r.used r.ok) (d : Tried (affected code e) w q w' r') where
+    module _ {w' : List ℕ} {q : Registers} {r' : Perhaps} (eq : q ≡ trying r (r.height - a) r.depth r.used) (d : Tried (affected code e) w q w' r') where
       pub plain_done : Tried (execute code (Plain n)) w r w' r'
       plain_done = exec_done code (Plain n) a t g ea.1 pops_plain et e h plain_effect eq d
 
   pub plain_fails : {r' : Perhaps} (x y : Value) → a ≤ t.count → x ≡ value_in t.first → y ≡ value_in t.second → None ≡ effect_of o x y → r' ≡ None → Tried (execute code (Plain n)) w r w r'
-  unfolding answer
   plain_fails {r'} x y h ex ey ee q =
-      let p = trying r (r.height - a) r.depth r.used r.ok in
+      let p = trying r (r.height - a) r.depth r.used in
       let u = exec_done code (Plain n) a t g ea.1 pops_plain et None h (plain_effect x y None h ex ey ee) refl (is_fail code None (busy_lower a g refl) refl refl) in
-      tried_no {f = execute code (Plain n)} g (sym u.does) q
+      tried_no {f = execute code (Plain n)} (sym u.does) q
 
 -- ---- an operator with its body
 
@@ -104,7 +103,7 @@ module _ {w : List ℕ} {r : Registers} (code : Code) (n start len a : ℕ) (o :
   pub holder_few : {r' : Perhaps} → t.count < a → r' ≡ None → Tried (execute code (WithBody n start len)) w r w r'
   holder_few {r'} h q = exec_few code (WithBody n start len) a t g ea.1 pops_holder et h q
 
-  pub holder_done : {w' : List ℕ} {q r' : Registers} (x : Value) (e : Option Effect) → a ≤ t.count → x ≡ value_in t.first → e ≡ body_effect o start len x → q ≡ trying r (r.height - a) r.depth r.used r.ok
+  pub holder_done : {w' : List ℕ} {q : Registers} {r' : Perhaps} (x : Value) (e : Option Effect) → a ≤ t.count → x ≡ value_in t.first → e ≡ body_effect o start len x → q ≡ trying r (r.height - a) r.depth r.used
       → Tried (affected code e) w q w' r' → Tried (execute code (WithBody n start len)) w r w' r'
   unfolding effect_at performed
   holder_done {w'} {q} {r'} x e h ex ee eq d = exec_done code (WithBody n start len) a t g ea.1 pops_holder et e h (ee ∙ (rw (← eo, ← et.first, ex))) eq d

@@ -15,20 +15,20 @@ use Rattle.machine.specs.Skeleton.{solid}
 use Rattle.machine.specs.Literal.{bytes_of, Code}
 use Rattle.machine.specs.Engine.{provided, spell, context_of, inline, kept, call}
 use Rattle.state.specs.declared.Registers.{Registers}
-use Rattle.state.specs.Layout.{contexts_of, abs, Busy, Tried}
+use Rattle.state.specs.Layout.{contexts_of, abs, Busy, Perhaps, Tried}
 use Rattle.state.specs.Operations as table
 use Rattle.effects.specs.declared.Callee.{Callee}
 use Rattle.effects.specs.Calls.{Enters}
 use Rattle.state.proofs.Parts.{length_values}
 use Rattle.state.proofs.Ending.{not_on}
-use Rattle.state.proofs.Trying.{failed, tried_no, tried_as}
+use Rattle.state.proofs.Trying.{tried_no, tried_as}
 
 -- a place in a word, past comments
 pub placed_at : (b : List ℕ) (start s q at : ℕ) → s ≡ start → q ≡ solid b s → at ≡ q → at ≡ solid b start
 placed_at b start s q at es eq ea = ea ∙ (eq ∙ ap (solid b) es)
 
 -- the running body's bytes are b
-module _ {w w' : List ℕ} {r r' : Registers} (code : Code) (b : List ℕ) (start o : ℕ) (eo : o ≡ (running (contexts_of (slots w) r.depth)).origin) (eb : b ≡ bytes_of code o) where
+module _ {w w' : List ℕ} {r : Registers} {r' : Perhaps} (code : Code) (b : List ℕ) (start o : ℕ) (eo : o ≡ (running (contexts_of (slots w) r.depth)).origin) (eb : b ≡ bytes_of code o) where
   pub spell_as : Tried (table.spell b start) w r w' r' → Tried (spell code start) w r w' r'
   unfolding spell table.spell
   spell_as t = tried_as (rw (← eo, ← eb)) t

@@ -138,20 +138,13 @@ fn matches<'a>(
     state::stack::push_number(w, r, bit)
 }
 
-// Nothing more is done.
-pub fn done(r: Registers) -> Registers
-    ensures { result ≡ record { height = r.height; depth = r.depth; used = r.used; steps = r.steps; errors = r.errors; skipping = r.skipping; ok = true } }
-{
-    Some(r)
-}
-
 // ERROR with a message, whose elements are Cardinals.
 fn report(w: &[u8], r: Registers, v: machine::Value) -> Option<Registers>
     requires { Busy w.now r }
     ensures { (code : Code) → Tried (worked code (Report v)) w.now r w.now result }
 {
     let machine::Value::Vector { first, count, .. } = v else {
-        return done(r);
+        return Some(r);
     };
     let all = store::cells::all_cardinals(
         w,
@@ -160,7 +153,7 @@ fn report(w: &[u8], r: Registers, v: machine::Value) -> Option<Registers>
         table::words::size(count),
     );
     if all {
-        return done(r);
+        return Some(r);
     }
     None
 }
@@ -171,7 +164,7 @@ fn work<'a>(w: &mut [u8], r: Registers, pre: &'a [u8], body: &'a [u8], x: Work) 
     ensures { Tried (worked (both pre.now body.now) x) w.old r w.new result }
 {
     match x {
-        Work::Nothing => done(r),
+        Work::Nothing => Some(r),
         Work::Fetch { j } => contexts::frames::fetch(w, r, table::words::size(j)),
         Work::Element { cell } => store::cells::element(w, r, table::words::size(cell)),
         Work::Build { lower, count } => store::cells::build(w, r, lower, table::words::size(count)),
@@ -223,7 +216,7 @@ pub fn affect<'a>(
     ensures { Tried (affected (both pre.now body.now) e) w.old r w.new result }
 {
     match e {
-        None => state::stack::failed(r),
+        None => None,
         Some(Effect::Gives(a)) => state::stack::push_number(w, r, a),
         Some(Effect::Gives2(a, b)) => state::stack::push_two(w, r, a, b),
         Some(Effect::Acts(x)) => act(w, r, pre, body, x),

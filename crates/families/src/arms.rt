@@ -66,7 +66,7 @@ pub fn affect_stack<'a>(
     ensures { Tried (affected (both pre.now body.now) e) w.old r w.new result }
 {
     match e {
-        Some(Effect::Acts(Next::Works(Work::Nothing))) => effects::done(r),
+        Some(Effect::Acts(Next::Works(Work::Nothing))) => Some(r),
         _ => effects::affect(w, r, pre, body, e),
     }
 }
@@ -86,7 +86,7 @@ pub fn affect_body<'a>(
         Some(Effect::Acts(Next::Inline { start, len, owes })) => effects::inline(
             w, r, pre, body, start, len, owes,
         ),
-        Some(Effect::Acts(Next::Works(Work::Nothing))) => effects::done(r),
+        Some(Effect::Acts(Next::Works(Work::Nothing))) => Some(r),
         _ => effects::affect(w, r, pre, body, e),
     }
 }

@@ -35,8 +35,10 @@ pub fn on_vectors<'a>(
     let x = state::values::value_of(t.first);
     let y = state::values::value_of(t.second);
     let e = reckoning::vector::effect(o, x, y);
-    let mut q = r;
-    q.height = r.height - a;
+    let q = Registers {
+        height: r.height - a,
+        ..r
+    };
     arms::affect_vector(w, q, pre, body, e)
 }
 
@@ -59,8 +61,10 @@ pub fn on_tests<'a>(
     let x = state::values::value_of(t.first);
     let y = state::values::value_of(t.second);
     let e = operators::test::effect(o, x, y);
-    let mut q = r;
-    q.height = r.height - a;
+    let q = Registers {
+        height: r.height - a,
+        ..r
+    };
     arms::affect_number(w, q, pre, body, e)
 }
 
@@ -83,8 +87,10 @@ pub fn on_numbers<'a>(
     let x = state::values::value_of(t.first);
     let y = state::values::value_of(t.second);
     let e = reckoning::arith::effect(o, x, y);
-    let mut q = r;
-    q.height = r.height - a;
+    let q = Registers {
+        height: r.height - a,
+        ..r
+    };
     arms::affect_number(w, q, pre, body, e)
 }
 
@@ -107,8 +113,10 @@ pub fn on_stack<'a>(
     let x = state::values::value_of(t.first);
     let y = state::values::value_of(t.second);
     let e = operators::stack::effect(o, x, y);
-    let mut q = r;
-    q.height = r.height - a;
+    let q = Registers {
+        height: r.height - a,
+        ..r
+    };
     arms::affect_stack(w, q, pre, body, e)
 }
 
@@ -133,7 +141,9 @@ pub fn holder<'a>(
     }
     let x = state::values::value_of(t.first);
     let e = operators::control::effect(o, start, len, x);
-    let mut q = r;
-    q.height = r.height - a;
+    let q = Registers {
+        height: r.height - a,
+        ..r
+    };
     arms::affect_body(w, q, pre, body, e)
 }

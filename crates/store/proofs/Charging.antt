@@ -110,7 +110,7 @@ module _ {w : List ℕ} {r : Registers} (a n : ℕ) (v : Slot) (e : Value) (new 
         → r' ≡ Some (trying r (a + 1) r.depth (r.used + n)) → Tried f w r w' r'
     charged_tried f {r'} meant q =
         let rm = charged_room in
-        rw q (tried_yes (omega (arith, lent_same (slots w') (slots w) r.depth (put_high 1752 _ (omega arith) (omega arith)))) (aside_same w' w (put_high 1764 1814 (omega arith) (omega arith))) refl refl
+        rw q (tried_yes (omega (arith, lent_same (slots w') (slots w) r.depth (put_high 1752 _ (omega arith) (omega arith)))) (aside_same w' w (put_high 1764 1814 (omega arith) (omega arith))) refl
         (meant ∙ (rw (← charged_abs) (fits_abs w' (trying r (a + 1) r.depth (r.used + n)) (omega arith) g.depth_fits room₁))))
 
 -- a charge that fails
@@ -128,7 +128,7 @@ cells_long w u b n = rw (length-append, length_values (slots w) 728 u, length_va
 
 -- ---- a vector put
 
-pub vector_put : (a lower n f c : ℕ) (w : List ℕ) (r : Registers) (w' : List ℕ) (r' : Registers) → f ≡ r.used → c ≡ n → slots w' ≡ set (slots w) a (mk 3 f lower c 0) → r' ≡ Some (trying r (a + 1) r.depth (r.used + n)) → VectorPut a lower n w r w' r'
+pub vector_put : (a lower n f c : ℕ) (w : List ℕ) (r : Registers) (w' : List ℕ) (r' : Registers) → f ≡ r.used → c ≡ n → slots w' ≡ set (slots w) a (mk 3 f lower c 0) → r' ≡ trying r (a + 1) r.depth (r.used + n) → VectorPut a lower n w r w' r'
 vector_put a lower n f c w r w' r' ef ec p q = record { put = rw (← ef, ← ec) p; registers = q }
 
 -- ---- MAKEVEC
@@ -162,7 +162,7 @@ module _ {w : List ℕ} {r : Registers} (lower n : ℕ) (g : Busy w r) where
         pub build_over : {r' : Perhaps} → 1024 < r.used + n → r' ≡ None → Tried (build lower n) w r w r'
         build_over {r'} f q = charge_over (build lower n) _ _ g build_is (omega (arith, length_stack (slots w) (r.height - n))) (omega (arith, cells_long w r.used (r.height - n) n)) q
 
-        pub build_yes : {w' : List ℕ} {r' : Perhaps} (w₁ : List ℕ) → lower < 2147483648 → r.used + n ≤ 1024 → slots w₁ ≡ copied (slots w) (r.height - n) (728 + r.used) n → VectorPut (r.height - n) lower n w₁ r w' r' → Tried (build lower n) w r w' r'
+        pub build_yes : {w' : List ℕ} {r' : Registers} (w₁ : List ℕ) → lower < 2147483648 → r.used + n ≤ 1024 → slots w₁ ≡ copied (slots w) (r.height - n) (728 + r.used) n → VectorPut (r.height - n) lower n w₁ r w' r' → Tried (build lower n) w r w' (Some r')
         build_yes {w'} {r'} w₁ small u p₁ v =
             let m = slots w in
             let a = r.height - n in
@@ -171,7 +171,7 @@ module _ {w : List ℕ} {r : Registers} (lower n : ℕ) (g : Busy w r) where
             let m₁ = copied m a (728 + r.used) n in
             charged_tried a n (mk 3 r.used lower n 0) (Vector r.used lower n) _ m₁ g (omega arith) u (vector_entry r.used lower n (omega arith) small (omega arith)) (length_copied m a (728 + r.used) n)
             (same_copied m a (728 + r.used) n 0 _ (inr (omega arith))) (same_copied m a (728 + r.used) n 1752 1814 (inl (omega arith)))
-            (values_moved m a (728 + r.used) n (omega arith) (inl (omega arith))) w' (rw p₁ at v.put) (build lower n) build_is v.registers
+            (values_moved m a (728 + r.used) n (omega arith) (inl (omega arith))) w' (rw p₁ at v.put) (build lower n) build_is (ap Some v.registers)
 
 -- ---- MAKESIMPLECO
 
@@ -276,7 +276,7 @@ module _ {w : List ℕ} {r : Registers} (b : List ℕ) (at n : ℕ) (g : Busy w 
         charge_over (spell b at) _ _ g spell_is (omega (arith, length_stack (slots w) r.height)) (omega arith) q
 
     module _ (ok : n ≤ 1024 - r.used) (bytes : Bytes b) where
-      pub spell_yes : {w' : List ℕ} {r' : Perhaps} (w₁ : List ℕ) → slots w₁ ≡ sets (slots w) (728 + r.used) (letter_slots (data_of (joined_at b at))) → VectorPut r.height 0 n w₁ r w' r' → Tried (spell b at) w r w' r'
+      pub spell_yes : {w' : List ℕ} {r' : Registers} (w₁ : List ℕ) → slots w₁ ≡ sets (slots w) (728 + r.used) (letter_slots (data_of (joined_at b at))) → VectorPut r.height 0 n w₁ r w' r' → Tried (spell b at) w r w' (Some r')
       unfolding spelt
       spell_yes {w'} {r'} w₁ p₁ v =
           let m = slots w in
@@ -288,4 +288,4 @@ module _ {w : List ℕ} {r : Registers} (b : List ℕ) (at n : ℕ) (g : Busy w 
           let made : values_at (sets m k vs) k n ≡ numbers d =
           ap (values_at (sets m k vs) k) (sym l) ∙ sets_values vs m k (omega arith) ∙ letters_are d (data_bytes b at bytes) in
           charged_tried r.height n (mk 3 r.used 0 n 0) (Vector r.used 0 n) _ (sets m k vs) g st (omega arith) (vector_entry r.used 0 n (omega arith) (omega arith) (omega arith)) (length-sets m k vs)
-          (λ i s t. sets_out vs m k i (inl t)) (λ i s t. sets_out vs m k i (inr (omega arith))) made w' (rw p₁ at v.put) (spell b at) spell_is v.registers
+          (λ i s t. sets_out vs m k i (inl t)) (λ i s t. sets_out vs m k i (inr (omega arith))) made w' (rw p₁ at v.put) (spell b at) spell_is (ap Some v.registers)

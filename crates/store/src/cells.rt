@@ -39,7 +39,11 @@ pub fn put_vector(w: &mut [u8], r: Registers, a: usize, lower: u32, n: usize) ->
             d: 0,
         },
     );
-    Registers { height: a + 1, used: r.used + n, ..r }
+    Registers {
+        height: a + 1,
+        used: r.used + n,
+        ..r
+    }
 }
 
 // MAKEVEC and MAKEVECLU: the topmost n values become cells, and a vector of them takes their place.
@@ -95,7 +99,11 @@ pub fn compose(w: &mut [u8], r: Registers, start: u32, len: u32) -> Option<Regis
             d: first,
         },
     );
-    Some(Registers { height: height + 1, used: used + 50, ..r })
+    Some(Registers {
+        height: height + 1,
+        used: used + 50,
+        ..r
+    })
 }
 
 // The slot holds a Cardinal: an integer from 0 to 16777215.

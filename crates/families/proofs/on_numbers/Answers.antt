@@ -9,7 +9,7 @@ use Rattle.families.proofs.on_numbers.Goals as goal
 pub returns-then-a-t : goal.returns-then-a-t
 unfolding arity_of effect_of
 returns-then-a-t c =
-    λ n i. plain_few _ n _ (Reckons c.args.o) _ c.requires.0 i c.arity-a.ensures c.tops-t.ensures c.if-a-t.true c.failed.ensures
+    λ n i. plain_few _ n _ (Reckons c.args.o) _ c.requires.0 i c.arity-a.ensures c.tops-t.ensures c.if-a-t.true refl
 
 pub overflow_sub-q : goal.overflow_sub-q
 unfolding arity_of effect_of

@@ -9,7 +9,7 @@ use Rattle.families.proofs.on_vectors.Goals as goal
 pub returns-then-a-t : goal.returns-then-a-t
 unfolding arity_of effect_of
 returns-then-a-t c =
-    λ n i. plain_few _ n _ (OnVectors c.args.o) _ c.requires.0 i c.arity-a.ensures c.tops-t.ensures c.if-a-t.true c.failed.ensures
+    λ n i. plain_few _ n _ (OnVectors c.args.o) _ c.requires.0 i c.arity-a.ensures c.tops-t.ensures c.if-a-t.true refl
 
 pub effect-e-requires : goal.effect-e-requires
 unfolding arity_of effect_of

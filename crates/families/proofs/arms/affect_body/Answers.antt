@@ -1,5 +1,5 @@
 -- `arms::affect_body` meets its contract. Assumes nothing.
-use mathlib.Core.Path.{◌≡◌, ap, ◌∙◌}
+use mathlib.Core.Path.{◌≡◌, ap, ◌∙◌, refl}
 use Rattle.std.specs.Prelude.{Some}
 use Rattle.machine.specs.declared.Effect.TheVariants.{Acts}
 use Rattle.machine.specs.declared.Next.TheVariants.{Works, Inline}
@@ -20,4 +20,4 @@ returns-in-Some-Acts-Works-Nothing c =
     let j : c.in-Some-Acts-Works-Nothing.field-0 ≡ Acts c.in-Some-Acts-Works-Nothing.field-0-0 = rw i at c.in-Some-Acts-Works-Nothing.field-0-is in
     let k : c.in-Some-Acts-Works-Nothing.field-0-0 ≡ Works c.in-Some-Acts-Works-Nothing.field-0-0-0 = rw (i, j) at c.in-Some-Acts-Works-Nothing.field-0-0-is in
     let l : c.in-Some-Acts-Works-Nothing.field-0-0-0 ≡ Nothing = rw (i, j, k) at c.in-Some-Acts-Works-Nothing.field-0-0-0-is in
-    is_acts _ _ _ (i ∙ ap Some j) (by_works _ _ _ (k ∙ ap Works l) (nothing_done _ c.requires.0 c.done.ensures))
+    is_acts _ _ _ (i ∙ ap Some j) (by_works _ _ _ (k ∙ ap Works l) (nothing_done _ c.requires.0 refl))
