@@ -26,13 +26,13 @@ use Rattle.machine.specs.Engine.{limited, with_contexts, values, with_values, po
 use Rattle.machine.specs.Step.{effect_at, execute}
 use Rattle.machine.proofs.Changes.{OnSome, limited_on, provided_on}
 use Rattle.state.specs.declared.Registers.{Registers}
-use Rattle.state.specs.Layout.{abs, answer, Tried}
+use Rattle.state.specs.Layout.{abs, Perhaps, Tried}
 use Rattle.state.proofs.Parts.{length_contexts, length_values, length_stack}
 use Rattle.state.proofs.Cutting.{over_above, over_drop}
 use Rattle.state.proofs.Stacking.{above_few}
 use Rattle.state.proofs.Ending.{not_on}
 use Rattle.effects.proofs.Acting.{beneath_few}
-use Rattle.sprints.specs.Swift.{marked, raised, Stays, ahead, onto, Flat}
+use Rattle.sprints.specs.Swift.{height_in, marked, lifted, Stays, ahead, onto, Flat}
 use Rattle.sprints.proofs.Flatness.{flat_work, flat_next, flat}
 use Rattle.sprints.proofs.Ahead.{execute_free, mark_free}
 
@@ -188,8 +188,8 @@ module _ (code : Code) (top : ℕ) where
 
 -- ---- the registers
 
-registers_path : {p : Registers} (r : Registers) (h : ℕ) → p.height ≡ h → p.depth ≡ r.depth → p.used ≡ r.used → p.steps ≡ r.steps → p.errors ≡ r.errors → p.skipping ≡ r.skipping → p.ok ≡ true → p ≡ raised r h
-registers_path r h a b c d e f g = λ i. record { height = a i; depth = b i; used = c i; steps = d i; errors = e i; skipping = f i; ok = g i }
+registers_path : {p : Registers} (r : Registers) (h : ℕ) → p.height ≡ h → p.depth ≡ r.depth → p.used ≡ r.used → p.steps ≡ r.steps → p.errors ≡ r.errors → p.skipping ≡ r.skipping → p ≡ lifted r h
+registers_path r h a b c d e f = λ i. record { height = a i; depth = b i; used = c i; steps = d i; errors = e i; skipping = f i }
 
 level_of : {top : ℕ} {s t : State} (o : Option State) → OnSome (Level top s) o → o ≡ some t → Level top s t
 level_of o h e = rw e at h
@@ -200,45 +200,43 @@ stays_none h more = record { low = λ k. absurd (omega arith); here = λ k. absu
 -- a literal that does the same wherever its body goes on, and leaves the registers as they are, but for the height
 module _ {top : ℕ} {w w' : List ℕ} {r : Registers} (code : Code) (x : Literal) (level : OnSome (Level top (abs w r)) (execute code x (abs w r)))
     (free : (p n : ℕ) → execute code x (ahead p n (abs w r)) ≡ onto p n (execute code x (abs w r))) where
-  made_flat : (h : ℕ) → h ≤ 128 → Tried (execute code x) w r w' (raised r h) → Flat top (execute code x) w r w' h
-  unfolding answer
+  made_flat : (h : ℕ) → h ≤ 128 → Tried (execute code x) w r w' (Some (lifted r h)) → Flat top (execute code x) w r w' h
   made_flat h few t =
       let l = level_of (execute code x (abs w r)) level (sym t.does) in
       record { made = λ _. t; stays = record { low = λ _. l.low; here = λ _. l.here; ends = λ _. l.ends; keeps = λ _. t.keeps }; back = λ b. absurd (omega arith); free = λ _. free; fails = λ z. absurd (omega arith) }
 
-  by_ok : (h : ℕ) (p : Registers) (b : Bool) → p.ok ≡ b → (p.ok ≡ true → h ≡ p.height) × (p.ok ≡ false → h ≡ 130) → Tried (execute code x) w r w' p → Flat top (execute code x) w r w' h
-  unfolding answer onto
-  by_ok h p true o a t =
-      let d : some (abs w' p) ≡ execute code x (abs w r) = rw o at t.does in
-      let l = level_of (execute code x (abs w r)) level (sym d) in
+  by_height : (h : ℕ) (p : Perhaps) → h ≡ height_in p → Tried (execute code x) w r w' p → Flat top (execute code x) w r w' h
+  unfolding onto
+  by_height h (Some p) a t =
+      let l = level_of (execute code x (abs w r)) level (sym t.does) in
       let deep : p.depth ≡ r.depth = sym (length_contexts (slots w') p.depth) ∙ l.contexts ∙ length_contexts (slots w) r.depth in
       let used : p.used ≡ r.used = sym (length_values (slots w') 728 p.used) ∙ l.cells ∙ length_values (slots w) 728 r.used in
-      let e : p ≡ raised r h = registers_path r h (sym (a.0 o)) deep used l.steps l.errors l.skipping o in
-      made_flat h (omega (arith, a.0 o, t.busy.stack_fits)) (rw e at t)
-  by_ok h p false o a t =
-      let d : none ≡ execute code x (abs w r) = rw o at t.does in
+      let e : p ≡ lifted r h = registers_path r h (sym a) deep used l.steps l.errors l.skipping in
+      made_flat h (omega (arith, a, t.busy.stack_fits)) (rw e at t)
+  by_height h None a t =
+      let d : none ≡ execute code x (abs w r) = t.does in
       record {
-        made = λ b. absurd (omega (arith, a.1 o));
-        stays = stays_none h (omega (arith, a.1 o));
-        back = λ b. t.back o;
-        free = λ b. absurd (omega (arith, a.1 o));
+        made = λ b. absurd (omega (arith, a));
+        stays = stays_none h (omega (arith, a));
+        back = λ b. t.back refl;
+        free = λ b. absurd (omega (arith, a));
         fails = λ _ q n. free q n ∙ (rw (← d));
       }
 
 module _ {w w' : List ℕ} {r : Registers} (code : Code) (x : Literal) (f : flat (effect_at x (abs w r)) ≡ true) where
   -- a height that is one
-  pub flat_made : (h : ℕ) → h ≤ 128 → Tried (execute code x) w r w' (raised r h) → Flat (marked w r.height) (execute code x) w r w' h
+  pub flat_made : (h : ℕ) → h ≤ 128 → Tried (execute code x) w r w' (Some (lifted r h)) → Flat (marked w r.height) (execute code x) w r w' h
   flat_made h few t = made_flat code x (level_execute code x (abs w r) f) (λ p n. execute_free code p n x (abs w r) f) h few t
 
   -- the height that an operation answers
-  pub flat_of : (h : ℕ) (p : Registers) → (p.ok ≡ true → h ≡ p.height) × (p.ok ≡ false → h ≡ 130) → Tried (execute code x) w r w' p → Flat (marked w r.height) (execute code x) w r w' h
-  flat_of h p a t = by_ok code x (level_execute code x (abs w r) f) (λ q n. execute_free code q n x (abs w r) f) h p p.ok refl a t
+  pub flat_of : (h : ℕ) (p : Perhaps) → h ≡ height_in p → Tried (execute code x) w r w' p → Flat (marked w r.height) (execute code x) w r w' h
+  flat_of h p a t = by_height code x (level_execute code x (abs w r) f) (λ q n. execute_free code q n x (abs w r) f) h p a t
 
 -- the same of MARK under no value
-pub flat_mark : {top : ℕ} {w w' : List ℕ} {r : Registers} (code : Code) (x : Literal) → popped x ≡ 1 → effect_at x (abs w r) ≡ Some (Acts (Place 0)) → r.height ≤ top → (h : ℕ) (p : Registers)
-    → (p.ok ≡ true → h ≡ p.height) × (p.ok ≡ false → h ≡ 130) → Tried (execute code x) w r w' p → Flat top (execute code x) w r w' h
+pub flat_mark : {top : ℕ} {w w' : List ℕ} {r : Registers} (code : Code) (x : Literal) → popped x ≡ 1 → effect_at x (abs w r) ≡ Some (Acts (Place 0)) → r.height ≤ top → (h : ℕ) (p : Perhaps)
+    → h ≡ height_in p → Tried (execute code x) w r w' p → Flat top (execute code x) w r w' h
 flat_mark {top} {w} {w'} {r} code x one e l h p a t =
-    by_ok code x (level_mark code top x (abs w r) one e (omega (arith, l, length_stack (slots w) r.height))) (λ q n. mark_free code q n 0 x (abs w r) e) h p p.ok refl a t
+    by_height code x (level_mark code top x (abs w r) one e (omega (arith, l, length_stack (slots w) r.height))) (λ q n. mark_free code q n 0 x (abs w r) e) h p a t
 
 -- marks may stand higher
 pub stays_higher : {top more : ℕ} {w w' : List ℕ} {r : Registers} {h : ℕ} → top ≤ more → Stays top w r w' h → Stays more w r w' h
@@ -265,10 +263,3 @@ pub flat_fails : {top : ℕ} {w : List ℕ} {r : Registers} (code : Code) (x : L
 unfolding effect_at
 flat_fails {w = w} {r = r} code x e =
     record { made = λ b. absurd (omega arith); stays = stays_none 130 (omega arith); back = λ b. refl; free = λ b. absurd (omega arith); fails = λ _ p n. execute_none code x (ahead p n (abs w r)) e }
-
--- what the height tells of an operation
-pub tells_on : (b : Bool) (h : ℕ) → b ≡ true → (b ≡ true → h ≡ h) × (b ≡ false → h ≡ 130)
-tells_on b h e = (λ i. refl, λ i. not_on (sym i ∙ e))
-
-pub tells_off : (b : Bool) (k h : ℕ) → k ≡ 130 → b ≡ false → (b ≡ true → k ≡ h) × (b ≡ false → k ≡ 130)
-tells_off b k h u e = (λ i. not_on (sym e ∙ i), λ i. u)

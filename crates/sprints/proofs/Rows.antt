@@ -32,7 +32,7 @@ use Rattle.nesting.proofs.BodyTurns.{stands_at, number_shown, operator_shown}
 use Rattle.literals.proofs.Standing.{stands_reads}
 use Rattle.literals.proofs.Passing.{solid_inside}
 use Rattle.state.specs.declared.Registers.{Registers}
-use Rattle.state.specs.Layout.{contexts_of, context_at, context_in, aside, abs, Busy, answer}
+use Rattle.state.specs.Layout.{contexts_of, context_at, context_in, aside, abs, Busy}
 use Rattle.state.proofs.Parts.{contexts_top, contexts_at}
 use Rattle.state.proofs.Ending.{not_on}
 use Rattle.sprints.specs.declared.Stride.{Stride}
@@ -40,7 +40,7 @@ use Rattle.machine.proofs.Literals.{First, first}
 use Rattle.machine.proofs.Inside.{token_inside}
 use Rattle.passing.specs.Known.{Reads}
 use Rattle.passing.proofs.Knowing.{joins}
-use Rattle.sprints.specs.Swift.{TokenThere, LiteralsLeft, marked, raised, origin, ending, ahead, Flat, Strides, lifted, Rowed}
+use Rattle.sprints.specs.Swift.{TokenThere, LiteralsLeft, marked, origin, ending, ahead, Flat, Strides, lifted, Rowed}
 use Rattle.sprints.proofs.Ahead.{ended_ahead, settle_ahead, step_ahead}
 use Rattle.sprints.proofs.Level.{stays_none, stays_higher, flat_higher}
 use Rattle.sprints.proofs.Swiftly.{run_last, none_run}
@@ -148,14 +148,10 @@ fallen h e z = omega arith
 
 -- ---- a row
 
-busy_as : {w : List ℕ} (r : Registers) (h : ℕ) → Busy w (raised r h) → Busy w (lifted r h)
-busy_as r h g = record { room = g.room; stack_fits = g.stack_fits; depth_fits = g.depth_fits; runs = g.runs; cells_fit = g.cells_fit; frames_fit = g.frames_fit; errors_fit = g.errors_fit; steps_fit = g.steps_fit }
-
 module _ (code : Code) (b w : List ℕ) (r : Registers) (p n k : ℕ) (S : State) (runs : 0 < r.depth) (quiet : r.skipping ≡ false) where
   -- one literal more
   row_step : {top : ℕ} {w' : List ℕ} (t : Stride) → b ≡ bytes_of code (origin w r.depth) → Strides top b p w r w' t → t.height ≤ 128 → (NoComment (token_at b p) → run k code S ≡ ahead p (n + k) (abs w r))
       → run (suc k) code S ≡ settle (ahead (solid b t.next) (n + suc k) (abs w' (lifted r t.height)))
-  unfolding answer
   row_step {w' = w'} t eb d few on =
       let m = slots w in
       let c = context_at m (r.depth - 1) in
@@ -166,7 +162,7 @@ module _ (code : Code) (b w : List ℕ) (r : Registers) (p n k : ℕ) (S : State
       let f = d.does done code in
       let z : suc (n + k) ≡ n + suc k = omega arith in
       let a : run (suc k) code S ≡ step code (run k code S) = run_last code k S (rw here (ended_ahead (abs w r) c cs top p (n + k))) in
-      let e = step_ahead (abs w r) c cs top code b p (n + k) (found_at b p).next (found_at b p).literal eb refl quiet (abs w' (raised r t.height)) (f.free few _ _) (sym (f.made few).does) in
+      let e = step_ahead (abs w r) c cs top code b p (n + k) (found_at b p).next (found_at b p).literal eb refl quiet (abs w' (lifted r t.height)) (f.free few _ _) (sym (f.made few).does) in
       a ∙ ap (step code) here ∙ e ∙ (rw (d.next done, z))
 
   -- a literal that is due, where no comment stands
@@ -219,9 +215,6 @@ module _ {b w₀ w : List ℕ} {r₀ r : Registers} {at most clear p left : ℕ}
   pub still : r.skipping ≡ false
   still = ap (λ (x : Registers). x.skipping) o.same ∙ quiet
 
-  pub not_yet : r₀.ok ≡ false → r.ok ≡ false
-  not_yet e = ap (λ (x : Registers). x.ok) o.same ∙ e
-
   -- the row ends before the literal at p, an operator or none
   pub rolling_stop : {w' : List ℕ} (f : Bool) (k next : ℕ) → ((k ≡ 0 → ⊥) → NoComment (token_at b p)) → (f ≡ true → NoComment (token_at b p) × ((code : Code) (q m : ℕ) → execute code (found_at b p).literal (ahead q m (abs w r)) ≡ none))
       → w' ≡ w → (code : Code) (n : ℕ) → b ≡ bytes_of code (origin w₀ r₀.depth) → Rowed code b at n most w₀ r₀ w' (record { height = r.height; left = left; at = p; failed = f; number = k; next = next })
@@ -267,7 +260,7 @@ module _ {b w₀ w : List ℕ} {r₀ r : Registers} {at most clear p left : ℕ}
     pub rolling_on : length w' ≡ length w → t.next < ending w₀ r₀.depth → Rolling b at most clear w₀ r₀ w' (lifted r t.height) t.next (left - 1)
     rolling_on long goes =
         record {
-          busy = busy_as r t.height ((d.does done []).made few).busy;
+          busy = ((d.does done []).made few).busy;
           same = anew;
           long = long ∙ o.long;
           keeps = d.stays.keeps few ∙ o.keeps;

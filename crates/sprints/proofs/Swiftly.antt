@@ -64,12 +64,12 @@ use Rattle.literals.specs.declared.Due.{Due}
 use Rattle.literals.specs.Dues as dues
 use Rattle.state.specs.declared.Registers.{Registers}
 use Rattle.state.specs.declared.Tops.{Tops}
-use Rattle.state.specs.Layout.{value_in, stack_of, contexts_of, abs, Good, Busy, answer, Tried, Begun, Topmost}
+use Rattle.state.specs.Layout.{value_in, stack_of, contexts_of, abs, Good, Busy, Perhaps, Tried, Begun, Topmost}
 use Rattle.state.proofs.Parts.{contexts_top}
 use Rattle.state.proofs.Cutting.{over_above}
 use Rattle.state.proofs.Trying.{trying, tried_as}
 use Rattle.state.proofs.Ending.{not_on}
-use Rattle.sprints.specs.Swift.{marked, quiet, Flat, stepped, Ready, Attempted}
+use Rattle.sprints.specs.Swift.{height_in, marked, quiet, Flat, stepped, Ready, Attempted}
 use Rattle.effects.proofs.Acting.{nothing_done, is_acts, by_place}
 use Rattle.sprints.proofs.Flatness.{flat}
 use Rattle.sprints.proofs.Level.{flat_made, flat_of, flat_mark, flat_higher}
@@ -78,14 +78,14 @@ use Rattle.state.specs.Operations as table
 
 -- ---- an operator without a body, in a row
 
-module _ {w w' : List ℕ} {r q r' : Registers} (code : Code) (n a : ℕ) (o : Op) (t : Tops) (g : Busy w r) (eo : o ≡ op_of n) (ea : (a ≡ arity_of o) × (a ≤ 2)) (et : Topmost (above (stack_of (slots w) r.height)) t)
-    (x y : Value) (e : Maybe Effect) (h : a ≤ t.count) (ex : x ≡ value_in t.first) (ey : y ≡ value_in t.second) (ee : e ≡ effect_of o x y) (eq : q ≡ trying r (r.height - a) r.depth r.used r.ok) (d : Tried (affected code e) w q w' r') where
-  pub plain_flat : (k : ℕ) → flat e ≡ true → (r'.ok ≡ true → k ≡ r'.height) × (r'.ok ≡ false → k ≡ 130) → Flat (marked w r.height) (execute code (Plain n)) w r w' k
+module _ {w w' : List ℕ} {r q : Registers} {r' : Perhaps} (code : Code) (n a : ℕ) (o : Op) (t : Tops) (g : Busy w r) (eo : o ≡ op_of n) (ea : (a ≡ arity_of o) × (a ≤ 2)) (et : Topmost (above (stack_of (slots w) r.height)) t)
+    (x y : Value) (e : Maybe Effect) (h : a ≤ t.count) (ex : x ≡ value_in t.first) (ey : y ≡ value_in t.second) (ee : e ≡ effect_of o x y) (eq : q ≡ trying r (r.height - a) r.depth r.used) (d : Tried (affected code e) w q w' r') where
+  pub plain_flat : (k : ℕ) → flat e ≡ true → k ≡ height_in r' → Flat (marked w r.height) (execute code (Plain n)) w r w' k
   plain_flat k f i = flat_of code (Plain n) (rw (← (plain_effect code n a o t g eo ea et x y e h ex ey ee)) f) k r' i (plain_done code n a o t g eo ea et x y e h ex ey ee eq d)
 
 -- ---- a literal, by its kind
 
-module _ {w w' : List ℕ} {r r' : Registers} (code : Code) (x : Literal) where
+module _ {w w' : List ℕ} {r : Registers} {r' : Perhaps} (code : Code) (x : Literal) where
   pub by_figure : (a : num.Number) → x ≡ Figure a → Tried (push (Number a)) w r w' r' → Tried (execute code x) w r w' r'
   unfolding execute provided popped effect_at performed affected pops
   by_figure a e t = rw e (tried_as (rw (le-leb 0 (length (above (stack_of (slots w) r.height))) (omega arith), over_above (stack_of (slots w) r.height))) t)
@@ -288,37 +288,37 @@ unfolding effect_at
 once_flat n e i s f = let vs = above s.stack in rw (i (get_or vs 0 state.zero) (get_or vs 1 state.zero)) f
 
 module _ {w w' : List ℕ} {r : Registers} (code : Code) where
-  rests : {r' : Registers} → Tried (worked code Nothing) w r w' r' → Tried (affected code (Some (Acts (Works Nothing)))) w r w' r'
+  rests : {r' : Perhaps} → Tried (worked code Nothing) w r w' r' → Tried (affected code (Some (Acts (Works Nothing)))) w r w' r'
   unfolding affected does
   rests t = t
 
-  repeats : {r' : Registers} → Tried (repeat 1) w r w' r' → Tried (affected code (Some (Acts (Works (Repeat 1))))) w r w' r'
+  repeats : {r' : Perhaps} → Tried (repeat 1) w r w' r' → Tried (affected code (Some (Acts (Works (Repeat 1))))) w r w' r'
   unfolding affected does worked
   repeats t = t
 
-  turns : {r' : Registers} → Tried (turn 2 1) w r w' r' → Tried (affected code (Some (Acts (Works (Turn 2 1))))) w r w' r'
+  turns : {r' : Perhaps} → Tried (turn 2 1) w r w' r' → Tried (affected code (Some (Acts (Works (Turn 2 1))))) w r w' r'
   unfolding affected does worked
   turns t = t
 
-  tallies : {r' : Registers} → Tried tally w r w' r' → Tried (affected code (Some (Acts Tally))) w r w' r'
+  tallies : {r' : Perhaps} → Tried tally w r w' r' → Tried (affected code (Some (Acts Tally))) w r w' r'
   unfolding affected does
   tallies t = t
 
-  removes : {r' : Registers} → Tried (remove 0) w r w' r' → Tried (affected code (Some (Acts (Remove 0)))) w r w' r'
+  removes : {r' : Perhaps} → Tried (remove 0) w r w' r' → Tried (affected code (Some (Acts (Remove 0)))) w r w' r'
   unfolding affected does
   removes t = t
 
   module _ (n : ℕ) (e : Maybe Effect) (z : popped (Plain n) ≡ 0) (i : (x y : Value) → performed (Plain n) x y ≡ e) where
-    at_once : {r' : Registers} → Tried (affected code e) w r w' r' → Tried (execute code (Plain n)) w r w' r'
+    at_once : {r' : Perhaps} → Tried (affected code e) w r w' r' → Tried (execute code (Plain n)) w r w' r'
     unfolding execute provided pops effect_at
     at_once t =
         let vs = above (stack_of (slots w) r.height) in
         tried_as (rw (z, i (get_or vs 0 state.zero) (get_or vs 1 state.zero), le-leb 0 (length vs) (omega arith), over_above (stack_of (slots w) r.height))) t
 
-  pub is_unmark : (n : ℕ) (p : Registers) → n ≡ 192 → Tried (remove 0) w r w' p → Tried (execute code (Plain n)) w r w' p
+  pub is_unmark : (n : ℕ) (p : Perhaps) → n ≡ 192 → Tried (remove 0) w r w' p → Tried (execute code (Plain n)) w r w' p
   is_unmark n p e t = rw e (at_once 192 (Some (Acts (Remove 0))) pops_none.3 (λ x y. (own_part x y).3) (removes t))
 
-  module _ (n h : ℕ) (p : Registers) (a : (p.ok ≡ true → h ≡ p.height) × (p.ok ≡ false → h ≡ 130)) where
+  module _ (n h : ℕ) (p : Perhaps) (a : h ≡ height_in p) where
     pub is_dup : n ≡ 181 → Tried (repeat 1) w r w' p → Flat (marked w r.height) (execute code (Plain n)) w r w' h × ((h ≡ 129 → ⊥) → role_of n ≡ role.Plain)
     is_dup e t =
         rw e
@@ -338,14 +338,14 @@ module _ {w w' : List ℕ} {r : Registers} (code : Code) where
 pub pop_flat : {w : List ℕ} {r : Registers} (code : Code) (t : Tops) → Busy w r → Topmost (above (stack_of (slots w) r.height)) t → 1 ≤ t.count → 1 ≤ r.height → Flat (marked w r.height) (execute code (Plain 180)) w r w (r.height - 1)
 unfolding effect_at performed
 pop_flat {w} {r} code t g et h k =
-    let q = trying r (r.height - 1) r.depth r.used r.ok in
+    let q = trying r (r.height - 1) r.depth r.used in
     flat_made code (Plain 180) (rw (← by_number.2) (ap flat (sym (pop_effect _ _)))) (r.height - 1) (omega arith)
     (plain_done code 180 1 (OnStack Pop) t g by_number.2 pop_one et (value_in t.first) (value_in t.second) (Some (Acts (Works Nothing))) h refl refl (pop_effect (value_in t.first) (value_in t.second)) refl
     (rests code (nothing_done code (busy_lower 1 g refl) refl)))
 
 -- MARK under no value
-pub mark_flat : {top : ℕ} {w w' : List ℕ} {r q p : Registers} (code : Code) (n h : ℕ) (t : Tops) → Busy w r → Topmost (above (stack_of (slots w) r.height)) t → 1 ≤ t.count → (x : Value) → x ≡ value_in t.first → (c : Maybe ℕ) → c ≡ cardinal? x → c ≡ Some n → n ≡ 0
-    → r.height ≤ top → q ≡ trying r (r.height - 1) r.depth r.used r.ok → Tried (place 0) w q w' p → (p.ok ≡ true → h ≡ p.height) × (p.ok ≡ false → h ≡ 130) → Flat top (execute code (Plain 186)) w r w' h
+pub mark_flat : {top : ℕ} {w w' : List ℕ} {r q : Registers} {p : Perhaps} (code : Code) (n h : ℕ) (t : Tops) → Busy w r → Topmost (above (stack_of (slots w) r.height)) t → 1 ≤ t.count → (x : Value) → x ≡ value_in t.first → (c : Maybe ℕ) → c ≡ cardinal? x → c ≡ Some n → n ≡ 0
+    → r.height ≤ top → q ≡ trying r (r.height - 1) r.depth r.used → Tried (place 0) w q w' p → h ≡ height_in p → Flat top (execute code (Plain 186)) w r w' h
 mark_flat {p = p} code n h t g et there x ex c ec e z low eq d a =
     let y = value_in t.second in
     let i = mark_places n x y c ec e z in
@@ -358,8 +358,8 @@ is_nop {w} {r} code n g e =
     (flat_made code (Plain 1) (once_flat 1 (Some (Acts (Works Nothing))) (λ x y. (own_part x y).2) (abs w r) refl) r.height g.stack_fits (at_once code 1 (Some (Acts (Works Nothing))) pops_none.2 (λ x y. (own_part x y).2) (rests code (nothing_done code g refl))), λ _. op_role 1 (OnStack Nop) by_number.5 refl)
 
 -- the same registers one by one
-quiet_is : (r : Registers) → r.skipping ≡ false → r.ok ≡ false → r ≡ quiet r.height r.depth r.used r.steps r.errors
-quiet_is r still undone = λ i. record { height = r.height; depth = r.depth; used = r.used; steps = r.steps; errors = r.errors; skipping = still i; ok = undone i }
+quiet_is : (r : Registers) → r.skipping ≡ false → r ≡ quiet r.height r.depth r.used r.steps r.errors
+quiet_is r still = λ i. record { height = r.height; depth = r.depth; used = r.used; steps = r.steps; errors = r.errors; skipping = still i }
 
 -- the others by number
 module _ {w w' : List ℕ} {r : Registers} (code : Code) (n h : ℕ) where
@@ -379,12 +379,12 @@ module _ {w w' : List ℕ} {r : Registers} (code : Code) (n h : ℕ) where
   pub is_test : (o : TestOp) → Tests o ≡ op_of n → ((c : Code) (m : ℕ) → Tests o ≡ op_of m → Flat (marked w r.height) (execute c (Plain m)) w r w' h) → Flat (marked w r.height) (execute code (Plain n)) w r w' h × ((h ≡ 129 → ⊥) → role_of n ≡ role.Plain)
   is_test o e t = by_op (Tests o) refl t e
 
-  module _ (still : r.skipping ≡ false) (undone : r.ok ≡ false) where
+  module _ (still : r.skipping ≡ false) where
     pub is_get : n ≡ 17 → ((c : Code) (m : ℕ) → OnVectors Get ≡ op_of m → Flat (marked w r.height) (execute c (Plain m)) w (quiet r.height r.depth r.used r.steps r.errors) w' h) → Flat (marked w r.height) (execute code (Plain n)) w r w' h × ((h ≡ 129 → ⊥) → role_of n ≡ role.Plain)
-    is_get e t = by_op (OnVectors Get) refl (λ c m i. rw (quiet_is r still undone) (t c m i)) (rw e by_number.18)
+    is_get e t = by_op (OnVectors Get) refl (λ c m i. rw (quiet_is r still) (t c m i)) (rw e by_number.18)
 
     pub is_shape : n ≡ 285 → ((c : Code) (m : ℕ) → OnVectors Shape ≡ op_of m → Flat (marked w r.height) (execute c (Plain m)) w (quiet r.height r.depth r.used r.steps r.errors) w' h) → Flat (marked w r.height) (execute code (Plain n)) w r w' h × ((h ≡ 129 → ⊥) → role_of n ≡ role.Plain)
-    is_shape e t = by_op (OnVectors Shape) refl (λ c m i. rw (quiet_is r still undone) (t c m i)) (rw e by_number.19)
+    is_shape e t = by_op (OnVectors Shape) refl (λ c m i. rw (quiet_is r still) (t c m i)) (rw e by_number.19)
 
   pub is_reckon : OneOf (201 ∷ 204 ∷ 210 ∷ 214 ∷ []) n → ((c : Code) → Flat (marked w r.height) (execute c (Plain n)) w r w' h) → Flat (marked w r.height) (execute code (Plain n)) w r w' h × ((h ≡ 129 → ⊥) → role_of n ≡ role.Plain)
   is_reckon o t = (t code, λ _. op_role n (op_of n) refl (sums_known n o))
@@ -429,22 +429,28 @@ module _ {code : Code} {b w : List ℕ} {at : ℕ} {r : Registers} (ready : Read
         rw (← ready.bytes, ← ready.place, found, ← en, ← be.does, e)
 
     -- tried
-    pub attempted : {w' : List ℕ} {p : Registers} (x : Literal) → found_at b at ≡ record { literal = x; next = past } → Tried (execute code x) w₁ q w' p → Attempted code w r w' p
-    unfolding executed answer
-    attempted {w'} {p} x found t = record {
+    pub attempted : {w' : List ℕ} (p : Perhaps) (x : Literal) → found_at b at ≡ record { literal = x; next = past } → Tried (execute code x) w₁ q w' p → Attempted code w r w' p
+    unfolding executed
+    attempted {w'} (Some p) x found t = record {
       busy = t.busy;
       counted = t.counted ∙ be.counted;
       keeps = t.keeps ∙ be.keeps;
       does =
-          λ o.
-          let d : some (abs w' p) ≡ execute code x (abs w₁ q) = rw o at t.does in
+          let d : some (abs w' p) ≡ execute code x (abs w₁ q) = t.does in
           sym (due_step x found ∙ (rw (← d)));
+      fails = tt;
+      frames = tt;
+    }
+    attempted {w'} None x found t = record {
+      busy = tt;
+      counted = tt;
+      keeps = t.keeps ∙ be.keeps;
+      does = tt;
       fails =
-          λ o.
-          let d : none ≡ execute code x (abs w₁ q) = rw o at t.does in
-          let e : abs w' (stepped r r.height) ≡ abs w₁ q = rw (t.back o, be.registers) in
+          let d : none ≡ execute code x (abs w₁ q) = t.does in
+          let e : abs w' (stepped r r.height) ≡ abs w₁ q = rw (t.back refl, be.registers) in
           ap fault e ∙ sym (due_step x found ∙ (rw (← d)));
-      frames = λ o. rw (t.back o) (rw be.registers at be.busy.frames_fit);
+      frames = rw (t.back refl) (rw be.registers at be.busy.frames_fit);
     }
 
 -- ---- some steps at once
@@ -490,10 +496,6 @@ pub none_run : (code : Code) (n : ℕ) (s : State) → run (n - n) code s ≡ s
 unfolding run
 none_run code n s = let z : n - n ≡ 0 = omega arith in rw z
 
--- the bounds hold whatever `ok` says
-pub good_as : {w : List ℕ} {r : Registers} (b : Bool) → Good w r → Good w (record { height = r.height; depth = r.depth; used = r.used; steps = r.steps; errors = r.errors; skipping = r.skipping; ok = b })
-good_as b g = record { room = g.room; stack_fits = g.stack_fits; depth_fits = g.depth_fits; cells_fit = g.cells_fit; frames_fit = g.frames_fit; errors_fit = g.errors_fit }
-
 -- ---- after a step
 
 -- what was done may settle
@@ -501,5 +503,5 @@ pub settles : {w : List ℕ} {r : Registers} → Busy w r → Good w r × (r.err
 settles b = (record { room = b.room; stack_fits = b.stack_fits; depth_fits = b.depth_fits; cells_fit = b.cells_fit; frames_fit = b.frames_fit; errors_fit = omega (arith, b.errors_fit) }, b.errors_fit)
 
 -- a step that has failed may recover
-pub faults : {f : State → Option State} {w w₁ w₂ : List ℕ} {r s p : Registers} (n : ℕ) → Begun n w r w₁ s → Tried f w₁ s w₂ p → p.ok ≡ false → Good w₂ (stepped r r.height) × (r.errors < r.steps + 1)
+pub faults : {f : State → Option State} {w w₁ w₂ : List ℕ} {r s : Registers} {p : Perhaps} (n : ℕ) → Begun n w r w₁ s → Tried f w₁ s w₂ p → p ≡ None → Good w₂ (stepped r r.height) × (r.errors < r.steps + 1)
 faults n be t o = let b = be.busy in rw (t.back o) (settles (rw be.registers at b))

@@ -1,6 +1,6 @@
 -- Steps as the code takes them: one literal, answering the new height of the stack, or more than the stack can hold, when nothing was done;
 -- one literal of any kind; and several in a row. Assumes nothing.
-use Rattle.std.specs.Prelude.{Ok}
+use Rattle.std.specs.Prelude.{Ok, Some, None, IfSome, IfNone}
 use Rattle.std.specs.Prelude.{ℕ, ◌+◌, ◌-◌, ◌≤◌, ◌<◌, ◌≡◌, true, false, not, ◌&&◌, List, [], ◌∷◌, length}
 use Rattle.std.proofs.Math.Option.{Option, none, some}
 use Rattle.table.specs.Slots.{slots}
@@ -18,7 +18,7 @@ use Rattle.literals.specs.Dues.{LiteralThere}
 use Rattle.sprints.specs.declared.Stride.{Stride}
 use Rattle.sprints.specs.declared.Reach.{Reach}
 use Rattle.state.specs.declared.Registers.{Registers}
-use Rattle.state.specs.Layout.{stack_of, contexts_of, aside, abs, lent, Good, Busy, Tried}
+use Rattle.state.specs.Layout.{stack_of, contexts_of, aside, abs, lent, Good, Busy, Perhaps, Tried}
 
 -- ---- bytes that have been judged
 
@@ -43,13 +43,18 @@ failed_height = 130
 abbrev pub marked : List ℕ → ℕ → ℕ
 marked w height = length (beneath (stack_of (slots w) height))
 
--- the registers r with another height, after an operation that did not fail
-abbrev pub raised : Registers → ℕ → Registers
-raised r h = record { height = h; depth = r.depth; used = r.used; steps = r.steps; errors = r.errors; skipping = r.skipping; ok = true }
+-- the height that an operation's answer tells
+abbrev pub height_in : Perhaps → ℕ
+height_in (Some p) = p.height
+height_in None = failed_height
+
+-- the registers r with another height
+abbrev pub lifted : Registers → ℕ → Registers
+lifted r h = record { height = h; depth = r.depth; used = r.used; steps = r.steps; errors = r.errors; skipping = r.skipping }
 
 -- registers within a row of literals
 abbrev pub quiet : ℕ → ℕ → ℕ → ℕ → ℕ → Registers
-quiet height depth used steps errors = record { height = height; depth = depth; used = used; steps = steps; errors = errors; skipping = false; ok = false }
+quiet height depth used steps errors = record { height = height; depth = depth; used = used; steps = steps; errors = errors; skipping = false }
 
 -- the origin of the running body, where there are so many contexts
 abbrev pub origin : List ℕ → ℕ → ℕ
@@ -81,7 +86,7 @@ onto p n (some s) = some (ahead p n s)
 
 -- what means f done within a step: it leaves the stack h high, whatever the place and the steps, or tells that it fails
 pub record Flat (top : ℕ) (f : State → Option State) (w : List ℕ) (r : Registers) (w' : List ℕ) (h : ℕ) : Type 0 where
-  pub made : h ≤ most_entries → Tried f w r w' (raised r h)
+  pub made : h ≤ most_entries → Tried f w r w' (Some (lifted r h))
   pub stays : Stays top w r w' h
   pub back : most_entries < h → w' ≡ w
   pub free : h ≤ most_entries → (p n : ℕ) → f (ahead p n (abs w r)) ≡ onto p n (f (abs w r))
@@ -89,7 +94,7 @@ pub record Flat (top : ℕ) (f : State → Option State) (w : List ℕ) (r : Reg
 
 -- the registers after a step that leaves the stack so high
 abbrev pub stepped : Registers → ℕ → Registers
-stepped r h = record { height = h; depth = r.depth; used = r.used; steps = r.steps + 1; errors = r.errors; skipping = r.skipping; ok = r.ok }
+stepped r h = record { height = h; depth = r.depth; used = r.used; steps = r.steps + 1; errors = r.errors; skipping = r.skipping }
 
 -- the literal that is due is not passed over
 abbrev pub Executes : Code → State → Type 0
@@ -104,15 +109,15 @@ pub record Ready (code : Code) (b : List ℕ) (at : ℕ) (w : List ℕ) (r : Reg
   pub bytes : b ≡ bytes_of code (origin w r.depth)
   pub place : at ≡ (running (contexts_of (slots w) r.depth)).at
 
--- a literal tried within a step; `ok` says whether it was executed. Where it was not, the cells that it may have charged are given back, and no
--- frame of a context lies in them (`frames`)
-pub record Attempted (code : Code) (w : List ℕ) (r : Registers) (w' : List ℕ) (r' : Registers) : Type 0 where
-  pub busy : Busy w' r'
-  pub counted : r'.steps ≡ r.steps + 1
+-- a literal tried within a step, and executed or not. Where it was not, the cells that it may have charged are given back, and no frame of a
+-- context lies in them (`frames`)
+pub record Attempted (code : Code) (w : List ℕ) (r : Registers) (w' : List ℕ) (q : Perhaps) : Type 0 where
+  pub busy : IfSome q (Busy w')
+  pub counted : IfSome q (λ r'. r'.steps ≡ r.steps + 1)
   pub keeps : aside w' ≡ aside w
-  pub does : r'.ok ≡ true → settle (abs w' r') ≡ step code (abs w r)
-  pub fails : r'.ok ≡ false → fault (abs w' (stepped r r.height)) ≡ step code (abs w r)
-  pub frames : r'.ok ≡ false → lent (slots w') r.depth ≤ r.used
+  pub does : IfSome q (λ r'. settle (abs w' r') ≡ step code (abs w r))
+  pub fails : IfNone q (fault (abs w' (stepped r r.height)) ≡ step code (abs w r))
+  pub frames : IfNone q (lent (slots w') r.depth ≤ r.used)
 
 -- ---- several
 
@@ -126,10 +131,6 @@ pub record Strides (top : ℕ) (b : List ℕ) (at : ℕ) (w : List ℕ) (r : Reg
   pub inside : (t.height ≡ undone_height → ⊥) → t.next ≤ length b
   pub told : (t.number ≡ 0 → ⊥) → token_at b at ≡ Ok (read.Operator t.number t.next)
   pub does : (t.height ≡ undone_height → ⊥) → (code : Code) → Flat top (execute code (found_at b at).literal) w r w' t.height
-
--- the registers r with another height, and no more
-abbrev pub lifted : Registers → ℕ → Registers
-lifted r h = record { height = h; depth = r.depth; used = r.used; steps = r.steps; errors = r.errors; skipping = r.skipping; ok = r.ok }
 
 -- a row of literals from `at` on, at most so many, after n steps: where it has come to, but for the place, the steps and the end of bodies
 -- (`does`); where it tells of the literal there that it is an operator (`here`) or fails (`falls`), no body has ended. The frames in progress

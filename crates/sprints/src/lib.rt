@@ -18,7 +18,7 @@ ghost use Rattle.tokens.specs.declared.Read.TheVariants as read;
 ghost use Rattle.tokens.specs.Token.{token_at};
 ghost use Rattle.state.specs.Layout.{Busy};
 ghost use Rattle.literals.specs.Dues.{LiteralThere};
-ghost use Rattle.sprints.specs.Swift.{TokenThere, LiteralsLeft, undone_height, failed_height, marked, origin, ending, quiet, Flat, Strides, Rowed};
+ghost use Rattle.sprints.specs.Swift.{TokenThere, LiteralsLeft, undone_height, height_in, marked, origin, ending, quiet, Flat, Strides, Rowed};
 
 use literals::reading::{NAME, TEXT};
 use machine::{Effect, FrameOp, Next, TestOp, Value, VectorOp, Work};
@@ -55,13 +55,13 @@ const UNDONE: usize = 129;
 const FAILED: usize = 130;
 
 // The height after an operation.
-fn height_of(p: Registers) -> usize
-    ensures { (p.ok ≡ true → result ≡ p.height) × (p.ok ≡ false → result ≡ failed_height) }
+fn height_of(p: Option<Registers>) -> usize
+    ensures { result ≡ height_in p }
 {
-    if p.ok {
-        return p.height;
+    match p {
+        Some(q) => q.height,
+        None => FAILED,
     }
-    FAILED
 }
 
 // ---- the operators met most
@@ -77,8 +77,10 @@ fn framed(w: &mut [u8], r: Registers, o: FrameOp) -> usize
     }
     let x = state::values::value_of(t.first);
     let e = operators::frame::effect(o, x);
-    let mut q = r;
-    q.height = r.height - 1;
+    let q = Registers {
+        height: r.height - 1,
+        ..r
+    };
     match e {
         Some(Effect::Acts(Next::Works(Work::Fetch { j }))) => height_of(contexts::frames::fetch(
             w,
@@ -112,8 +114,10 @@ fn mark(w: &mut [u8], r: Registers, clear: usize) -> usize
     if n != 0 {
         return UNDONE;
     }
-    let mut q = r;
-    q.height = r.height - 1;
+    let q = Registers {
+        height: r.height - 1,
+        ..r
+    };
     height_of(marks::place_bare(w, q))
 }
 
@@ -166,8 +170,10 @@ fn reckon(w: &mut [u8], r: Registers, n: u16) -> usize
     let Value::Number(a) = state::values::value_of(t.second) else {
         return UNDONE;
     };
-    let mut q = r;
-    q.height = r.height - 2;
+    let q = Registers {
+        height: r.height - 2,
+        ..r
+    };
     match two_numbers(n, a, b) {
         Ok(c) => height_of(state::stack::push_number(w, q, c)),
         Err(_) => FAILED,
@@ -203,8 +209,10 @@ fn test(w: &mut [u8], r: Registers, o: TestOp) -> usize
     let x = state::values::value_of(t.first);
     let y = state::values::value_of(t.second);
     let e = operators::test::effect(o, x, y);
-    let mut q = r;
-    q.height = r.height - 2;
+    let q = Registers {
+        height: r.height - 2,
+        ..r
+    };
     match e {
         Some(Effect::Gives(a)) => height_of(state::stack::push_number(w, q, a)),
         _ => UNDONE,
@@ -239,7 +247,6 @@ fn look(
         steps,
         errors,
         skipping: false,
-        ok: false,
     };
     match e {
         Some(Effect::Gives2(a, b)) => height_of(state::stack::push_two(w, q, a, b)),
@@ -254,7 +261,7 @@ fn look(
 
 // An operator. No mark stands at the height `clear` or above.
 fn operate(w: &mut [u8], r: Registers, n: u16, clear: usize) -> usize
-    requires { Busy w.old r × (r.skipping ≡ false) × (r.ok ≡ false) × (marked w.old r.height ≤ clear) }
+    requires { Busy w.old r × (r.skipping ≡ false) × (marked w.old r.height ≤ clear) }
     ensures { (code : Code) → Flat clear (execute code (Plain n)) w.old r w.new result × ((result ≡ undone_height → ⊥) → role_of n ≡ role.Plain) }
 {
     match n {
@@ -341,7 +348,7 @@ fn sequence(w: &mut [u8], r: Registers, b: &[u8], at: usize) -> Stride
 
 // The literal at `at`. At a comment nothing is done.
 fn literal(w: &mut [u8], r: Registers, b: &[u8], at: usize, clear: usize) -> Stride
-    requires { (length b.now ≤ 16777215) × Busy w.old r × (r.skipping ≡ false) × (r.ok ≡ false) × (marked w.old r.height ≤ clear) × TokenThere b.now at }
+    requires { (length b.now ≤ 16777215) × Busy w.old r × (r.skipping ≡ false) × (marked w.old r.height ≤ clear) × TokenThere b.now at }
     ensures { Strides clear b.now at w.old r w.new result }
 {
     match passing::known::form(b, at) {
@@ -377,7 +384,7 @@ pub fn row(
     most: usize,
     clear: usize,
 ) -> Reach
-    requires { (length b.now ≤ 16777215) × Busy w.old start × (start.skipping ≡ false) × (start.ok ≡ false) × (end ≡ ending w.old start.depth) × (marked w.old start.height ≤ clear) × LiteralsLeft b.now at end }
+    requires { (length b.now ≤ 16777215) × Busy w.old start × (start.skipping ≡ false) × (end ≡ ending w.old start.depth) × (marked w.old start.height ≤ clear) × LiteralsLeft b.now at end }
     ensures { (result.left ≤ most) × (result.left < most → result.at ≤ length b.now) × ((result.number ≡ 0 → ⊥) → (0 < result.left) × (token_at b.now result.at ≡ Ok (read.Operator result.number result.next)) × LiteralThere b.now result.at) × (result.failed ≡ true → (0 < result.left) × ((found_at b.now result.at).next ≡ solid b.now result.next) × (result.next ≤ length b.now)) × ((code : Code) (n : ℕ) → b.now ≡ bytes_of code (origin w.old start.depth) → Rowed code b.now at n most w.old start w.new result) }
 {
     let mut r = start;

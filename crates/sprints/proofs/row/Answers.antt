@@ -1,16 +1,16 @@
 use borrow.Author.Tests.{eqb-true}
 use Rattle.state.proofs.Ending.{not_on}
-use Rattle.sprints.proofs.Rows.{left_stood, left_on, still, not_yet, operator_solid, fallen, rolling_start, rolling_stop, rolling_on, rolling_ends}
+use Rattle.sprints.proofs.Rows.{left_stood, left_on, still, operator_solid, fallen, rolling_start, rolling_stop, rolling_on, rolling_ends}
 use mathlib.Core.Path.{refl}
 use native.Mathlib.Omega.{arith}
 use Rattle.sprints.proofs.row.Goals as goal
 
 pub loop-left-init : goal.loop-left-init
-loop-left-init c = (rolling_start _ _ _ c.requires.1 c.requires.5, c.requires.6)
+loop-left-init c = (rolling_start _ _ _ c.requires.1 c.requires.4, c.requires.5)
 
 pub literal-t-requires : goal.literal-t-requires
 literal-t-requires c =
-    (c.requires.0, c.loop-left.invariant.0.busy, still c.loop-left.invariant.0 c.requires.2, not_yet c.loop-left.invariant.0 c.requires.2 c.requires.3, c.loop-left.invariant.0.low, left_stood c.loop-left.invariant.1)
+    (c.requires.0, c.loop-left.invariant.0.busy, still c.loop-left.invariant.0 c.requires.2, c.loop-left.invariant.0.low, left_stood c.loop-left.invariant.1)
 
 pub shape_of-w-then-t-gt128 : goal.shape_of-w-then-t-gt128
 shape_of-w-then-t-gt128 c = omega (arith, c.w-1.given, c.loop-left.invariant.0.long)
@@ -34,7 +34,7 @@ loop-left-smaller c = omega (arith, c.loop-left-test.true)
 
 pub loop-left-preserved : goal.loop-left-preserved
 loop-left-preserved c =
-    (rolling_on c.loop-left.invariant.0 c.requires.2 _ c.literal-t.ensures c.if-t-gt128.false c.loop-left-test.true c.w-1.given (omega (arith, c.if-p-end.false, c.requires.4)), left_on c.loop-left.invariant.1 _ (c.literal-t.ensures.token (λ z. omega (arith, z, c.if-t-gt128.false))) (c.literal-t.ensures.next (λ z. omega (arith, z, c.if-t-gt128.false))) (omega (arith, c.if-p-end.false)))
+    (rolling_on c.loop-left.invariant.0 c.requires.2 _ c.literal-t.ensures c.if-t-gt128.false c.loop-left-test.true c.w-1.given (omega (arith, c.if-p-end.false, c.requires.3)), left_on c.loop-left.invariant.1 _ (c.literal-t.ensures.token (λ z. omega (arith, z, c.if-t-gt128.false))) (c.literal-t.ensures.next (λ z. omega (arith, z, c.if-t-gt128.false))) (omega (arith, c.if-p-end.false)))
 
 pub shape_of-w : goal.shape_of-w
 shape_of-w c = c.loop-left.invariant.0.long
