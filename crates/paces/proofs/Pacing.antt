@@ -1,5 +1,6 @@
 -- A literal executed, and a step with it, in the words of the table. In order: a literal by its kind; the same registers; the literal that is
 -- due; a step. Assumes nothing.
+use Rattle.std.specs.Prelude.{Some, None}
 use Prim.Native.Nat.{ℕ, ◌+◌, ◌≤◌, ◌<◌}
 use native.Mathlib.Omega.{arith}
 use mathlib.Core.Path.{◌≡◌, ◌∙◌}
@@ -23,19 +24,19 @@ use Rattle.literals.specs.Dues.{Is, LiteralThere}
 use Rattle.names.specs.Names.{both}
 use Rattle.state.specs.declared.Place.{Place}
 use Rattle.state.specs.declared.Registers.{Registers}
-use Rattle.state.specs.Layout.{stack_of, contexts_of, abs, Busy, Done, Tried, Good}
+use Rattle.state.specs.Layout.{stack_of, contexts_of, abs, Busy, Done, Perhaps, Tried, Good}
 use Rattle.state.proofs.Cutting.{over_above}
 use Rattle.state.proofs.Trying.{tried_as}
 use Rattle.machine.proofs.Legible.{Legible, going_on, going_literal}
 use Rattle.origins.specs.Bodies.{Short}
 use Rattle.sprints.specs.Swift.{stepped, Executes, Ready, Attempted}
 use Rattle.origins.proofs.ByOrigin.{bytes_short}
-use Rattle.sprints.proofs.Swiftly.{not_ended}
+use Rattle.sprints.proofs.Swiftly.{not_ended, settles}
 use Rattle.paces.specs.Paces.{SizedLiteral, Stepped}
 
 -- ---- a literal, by its kind
 
-module _ {w w' : List ℕ} {r r' : Registers} (code : Code) (x : Literal) where
+module _ {w w' : List ℕ} {r : Registers} {r' : Perhaps} (code : Code) (x : Literal) where
   pub by_text : (s n : ℕ) → x ≡ Text s → n ≡ s → Tried (spell code n) w r w' r' → Tried (execute code x) w r w' r'
   unfolding execute provided popped effect_at performed affected does worked pops
   by_text s n e f t = rw (e, ← f) (tried_as (rw (le-leb 0 (length (above (stack_of (slots w) r.height))) (omega arith), over_above (stack_of (slots w) r.height))) t)
@@ -51,8 +52,8 @@ sized_holder x n s l h e = rw e at h
 
 -- ---- the same registers
 
-pub tried_same : {f : State → Option State} {w w' : List ℕ} {r r₁ q q₁ : Registers} → r₁ ≡ r → q ≡ q₁ → Tried f w r₁ w' q₁ → Tried f w r w' q
-tried_same e i t = rw (← e, i) t
+pub tried_same : {f : State → Option State} {w w' : List ℕ} {r r₁ : Registers} {q : Perhaps} → r₁ ≡ r → Tried f w r₁ w' q → Tried f w r w' q
+tried_same e t = rw (← e) t
 
 pub done_same : {f : State → State} {w w' : List ℕ} {r q q₁ : Registers} → q ≡ q₁ → Done f w r w' q₁ → Done f w r w' q
 done_same i d = rw i d
@@ -93,14 +94,23 @@ pub ready_now : {w : List ℕ} {r : Registers} (pre body b : List ℕ) (c : Plac
 ready_now pre body b c at g runs x few here eb ea =
     record { good = g; runs = runs; executes = x; few = few; bytes = rw (← here.0) eb; place = ea ∙ here.1 }
 
-module _ {w w₁ : List ℕ} {r p : Registers} (pre body : List ℕ) (t : Attempted (both pre body) w r w₁ p) where
-  pub pace_settles : {w' : List ℕ} {r' : Registers} → p.ok ≡ true → Done settle w₁ p w' r' → Stepped pre body w r w' r'
-  pace_settles o d = record { good = d.good; does = d.does ∙ t.does o; keeps = d.keeps ∙ t.keeps; counted = d.counted ∙ t.counted }
+module _ {w w₁ : List ℕ} {r : Registers} {q : Perhaps} (pre body : List ℕ) (t : Attempted (both pre body) w r w₁ q) where
+  pub pace_settles : {w' : List ℕ} {r' p : Registers} → q ≡ Some p → Done settle w₁ p w' r' → Stepped pre body w r w' r'
+  pace_settles {p} e d =
+      let u : Attempted (both pre body) w r w₁ (Some p) = rw e at t in
+      record { good = d.good; does = d.does ∙ u.does; keeps = d.keeps ∙ t.keeps; counted = d.counted ∙ u.counted }
+
+  pub pace_may_settle : {p : Registers} → q ≡ Some p → Good w₁ p × (p.errors < p.steps)
+  pace_may_settle {p = p} e = let u : Attempted (both pre body) w r w₁ (Some p) = rw e at t in settles u.busy
+
+  none_done : q ≡ None → Attempted (both pre body) w r w₁ None
+  none_done e = rw e at t
 
   -- one that has failed may recover
-  pub pace_recovers : Good w r → p.ok ≡ false → Good w₁ (stepped r r.height) × (r.errors < r.steps + 1)
-  pace_recovers g o =
-      (record { room = t.busy.room; stack_fits = g.stack_fits; depth_fits = g.depth_fits; cells_fit = g.cells_fit; frames_fit = t.frames o; errors_fit = omega (arith, g.errors_fit) }, omega (arith, g.errors_fit))
+  pub pace_recovers : {s : Registers} → Good w r → q ≡ None → s ≡ stepped r r.height → Good w₁ s × (s.errors < s.steps)
+  pace_recovers g e i = rw i ((none_done e).good, omega (arith, g.errors_fit))
 
-  pub pace_faults : {w' : List ℕ} {r' : Registers} → p.ok ≡ false → Done fault w₁ (stepped r r.height) w' r' → Stepped pre body w r w' r'
-  pace_faults o d = record { good = d.good; does = d.does ∙ t.fails o; keeps = d.keeps ∙ t.keeps; counted = d.counted }
+  pub pace_faults : {w' : List ℕ} {r' s : Registers} → q ≡ None → s ≡ stepped r r.height → Done fault w₁ s w' r' → Stepped pre body w r w' r'
+  pace_faults e i d =
+      let f = rw i at d in
+      record { good = f.good; does = f.does ∙ (none_done e).fails; keeps = f.keeps ∙ t.keeps; counted = f.counted }

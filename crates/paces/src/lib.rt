@@ -18,7 +18,7 @@ use machine::{Literal, Op};
 use state::{Registers, afresh};
 
 // An operator without a body: the values that it pops must stand above the topmost mark.
-fn plain<'a>(w: &mut [u8], r: Registers, pre: &'a [u8], body: &'a [u8], n: u16) -> Registers
+fn plain<'a>(w: &mut [u8], r: Registers, pre: &'a [u8], body: &'a [u8], n: u16) -> Option<Registers>
     requires { Busy w.old r × Short pre.now body.now }
     ensures { Tried (execute (both pre.now body.now) (Plain n)) w.old r w.new result }
 {
@@ -26,17 +26,25 @@ fn plain<'a>(w: &mut [u8], r: Registers, pre: &'a [u8], body: &'a [u8], n: u16) 
     let a = operators::arity_of(o);
     let t = state::stack::tops(w, r.height);
     if a > t.count {
-        return state::stack::failed(r);
+        return None;
     }
     let x = state::values::value_of(t.first);
     let y = state::values::value_of(t.second);
     let e = operators::effect_of(o, x, y);
-    let mut q = r;
-    q.height = r.height - a;
+    let q = Registers {
+        height: r.height - a,
+        ..r
+    };
     effects::affect(w, q, pre, body, e)
 }
 
-fn execute<'a>(w: &mut [u8], r: Registers, pre: &'a [u8], body: &'a [u8], x: Literal) -> Registers
+fn execute<'a>(
+    w: &mut [u8],
+    r: Registers,
+    pre: &'a [u8],
+    body: &'a [u8],
+    x: Literal,
+) -> Option<Registers>
     requires { Busy w.old r × Short pre.now body.now × SizedLiteral x }
     ensures { Tried (execute (both pre.now body.now) x) w.old r w.new result }
 {
@@ -52,18 +60,24 @@ fn execute<'a>(w: &mut [u8], r: Registers, pre: &'a [u8], body: &'a [u8], x: Lit
 }
 
 // An operator without a body, those of four families in line (DECISIONS, D73), and UNMARK0.
-fn operator<'a>(w: &mut [u8], r: Registers, pre: &'a [u8], body: &'a [u8], n: u16) -> Registers
+fn operator<'a>(
+    w: &mut [u8],
+    r: Registers,
+    pre: &'a [u8],
+    body: &'a [u8],
+    n: u16,
+) -> Option<Registers>
     requires { Busy w.old r × Short pre.now body.now }
     ensures { Tried (execute (both pre.now body.now) (Plain n)) w.old r w.new result }
 {
     match n {
         192 => marks::remove(w, r, 0),
         _ => match numbering::op_of(n) {
-            Op::OnVectors(k) => afresh(families::on_vectors(w, afresh(r), pre, body, k)),
-            Op::Tests(k) => afresh(families::on_tests(w, afresh(r), pre, body, k)),
-            Op::OnStack(k) => afresh(families::on_stack(w, afresh(r), pre, body, k)),
-            Op::Reckons(k) => afresh(families::on_numbers(w, afresh(r), pre, body, k)),
-            _ => afresh(plain(w, afresh(r), pre, body, n)),
+            Op::OnVectors(k) => families::on_vectors(w, afresh(r), pre, body, k),
+            Op::Tests(k) => families::on_tests(w, afresh(r), pre, body, k),
+            Op::OnStack(k) => families::on_stack(w, afresh(r), pre, body, k),
+            Op::Reckons(k) => families::on_numbers(w, afresh(r), pre, body, k),
+            _ => plain(w, afresh(r), pre, body, n),
         },
     }
 }
@@ -81,7 +95,7 @@ fn literal<'a>(
     notes: &mut [u32],
     o: u32,
     at: usize,
-) -> Registers
+) -> Option<Registers>
     requires { Ready (both pre.now body.now) (bytes_of (both pre.now body.now) o) at w.old r × Short pre.now body.now × Noting pre.now body.now early.old notes.old × LiteralThere (bytes_of (both pre.now body.now) o) at }
     ensures { Attempted (both pre.now body.now) w.old r w.new result × Noting pre.now body.now early.new notes.new }
 {
@@ -104,7 +118,7 @@ fn pace_noting<'a>(
     ensures { Stepped pre.now body.now w.old r w.new result × Noting pre.now body.now early.new notes.new }
 {
     let c = contexts::bodies::running(w, r.depth);
-    let p = literal(
+    match literal(
         w,
         r,
         pre,
@@ -113,13 +127,10 @@ fn pace_noting<'a>(
         notes,
         c.origin,
         table::words::size(c.start),
-    );
-    if p.ok {
-        return recovery::ends::settle(w, p);
+    ) {
+        Some(p) => recovery::ends::settle(w, p),
+        None => recovery::ends::fault(w, state::counted(r)),
     }
-    let mut q = r;
-    q.steps = r.steps + 1;
-    recovery::ends::fault(w, q)
 }
 
 // A step with a literal that is not passed over: most often an operator, told by its first bytes. Only the other literals ask for notes, and
@@ -141,11 +152,8 @@ pub fn pace<'a>(
         return afresh(pace_noting(w, afresh(r), pre, body, early, notes));
     };
     let s = contexts::bodies::begin(w, r, table::words::word(x.next));
-    let p = operator(w, s, pre, body, x.number);
-    if p.ok {
-        return afresh(recovery::ends::settle(w, p));
+    match operator(w, s, pre, body, x.number) {
+        Some(p) => afresh(recovery::ends::settle(w, p)),
+        None => afresh(recovery::ends::fault(w, state::counted(r))),
     }
-    let mut q = r;
-    q.steps = r.steps + 1;
-    afresh(recovery::ends::fault(w, q))
 }

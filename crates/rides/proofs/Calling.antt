@@ -26,12 +26,12 @@ use Rattle.machine.specs.Step.{execute, executed, begun_in, begun}
 use Rattle.operands.proofs.Reading.{NoOperator, no_operator}
 use Rattle.state.specs.declared.Registers.{Registers}
 use Rattle.state.specs.declared.Tops.{Tops}
-use Rattle.state.specs.Layout.{value_in, stack_of, abs, Good, Busy, Done, answer, Tried, Begun, Topmost}
-use Rattle.state.proofs.Trying.{trying, failed}
+use Rattle.state.specs.Layout.{value_in, stack_of, abs, Good, Busy, Done, Perhaps, Tried, Begun, Topmost}
+use Rattle.state.proofs.Trying.{trying}
 use Rattle.effects.proofs.Acting.{is_acts, by_call}
 use Rattle.effects.proofs.Executing.{plain_few, plain_done, plain_fails}
 use Rattle.sprints.specs.Swift.{origin, stepped}
-use Rattle.sprints.proofs.Swiftly.{by_number, faults}
+use Rattle.sprints.proofs.Swiftly.{by_number, faults, may_settle}
 use Rattle.rides.specs.Rides.{Paced}
 
 -- ---- DO
@@ -49,34 +49,37 @@ unfolding effect_of call_effect called as_operator
 do_call o s l f x y e = rw e
 
 module _ {w : List ℕ} {r : Registers} (code : Code) (t : Tops) (g : Busy w r) (et : Topmost (above (stack_of (slots w) r.height)) t) where
-  pub do_few : {r' : Registers} → t.count < 1 → r' ≡ failed r → Tried (execute code (Plain 231)) w r w r'
+  pub do_few : {r' : Perhaps} → t.count < 1 → r' ≡ None → Tried (execute code (Plain 231)) w r w r'
   do_few {r'} h q = plain_few code 231 1 (Calls Do) t g by_number.6 do_one et h q
 
   module _ (h : 1 ≤ t.count) (x : Value) (ex : x ≡ value_in t.first) where
-    pub do_made : {w' : List ℕ} {q r' : Registers} (o s l f : ℕ) → x ≡ Operator o s l f → q ≡ trying r (r.height - 1) r.depth r.used r.ok → Tried (call code o s l f) w q w' r' → Tried (execute code (Plain 231)) w r w' r'
+    pub do_made : {w' : List ℕ} {q : Registers} {r' : Perhaps} (o s l f : ℕ) → x ≡ Operator o s l f → q ≡ trying r (r.height - 1) r.depth r.used → Tried (call code o s l f) w q w' r' → Tried (execute code (Plain 231)) w r w' r'
     do_made {w'} {q} {r'} o s l f e eq d =
         plain_done code 231 1 (Calls Do) t g by_number.6 do_one et x (value_in t.second) (Some (Acts (Call o s l f))) h ex refl (do_call o s l f x (value_in t.second) e) eq (is_acts code (Some (Acts (Call o s l f))) (Call o s l f) refl (by_call code (Call o s l f) o s l f refl d))
 
-    pub do_fails : {r' : Registers} → NoOperator x → r' ≡ failed r → Tried (execute code (Plain 231)) w r w r'
+    pub do_fails : {r' : Perhaps} → NoOperator x → r' ≡ None → Tried (execute code (Plain 231)) w r w r'
     do_fails {r'} bad q =
         plain_fails code 231 1 (Calls Do) t g by_number.6 do_one et x (value_in t.second) h ex refl (calls_nothing x (value_in t.second) bad) q
 
 -- ---- a step
 
-module _ {w w₁ w₂ : List ℕ} {r s p : Registers} (code : Code) (x : Literal) (m n : ℕ) (em : n ≡ m) (be : Begun n w r w₁ s) (t : Tried (execute code x) w₁ s w₂ p) where
+module _ {w w₁ w₂ : List ℕ} {r s : Registers} {q : Perhaps} (code : Code) (x : Literal) (m n : ℕ) (em : n ≡ m) (be : Begun n w r w₁ s) (t : Tried (execute code x) w₁ s w₂ q) where
   began : begun m (abs w r) ≡ abs w₁ s
   began = rw (← em) (sym be.does)
 
-  pub paced_settles : {w' : List ℕ} {r' : Registers} → p.ok ≡ true → Done settle w₂ p w' r' → Paced code x m w r w' r'
-  unfolding executed answer
-  paced_settles {w'} {r'} o d =
-      let e : some (abs w₂ p) ≡ execute code x (abs w₁ s) = rw o at t.does in
-      record { good = d.good; does = d.does ∙ (rw (began, ← e)); keeps = d.keeps ∙ (t.keeps ∙ be.keeps); counted = d.counted ∙ (t.counted ∙ be.counted) }
+  pub paced_settles : {w' : List ℕ} {r' p : Registers} → q ≡ Some p → Done settle w₂ p w' r' → Paced code x m w r w' r'
+  unfolding executed
+  paced_settles {p = p} o d =
+      let u : Tried (execute code x) w₁ s w₂ (Some p) = rw o at t in
+      let e : some (abs w₂ p) ≡ execute code x (abs w₁ s) = u.does in
+      record { good = d.good; does = d.does ∙ (rw (began, ← e)); keeps = d.keeps ∙ (t.keeps ∙ be.keeps); counted = d.counted ∙ (u.counted ∙ be.counted) }
 
-  pub paced_faults : {w' : List ℕ} {r' : Registers} → p.ok ≡ false → Done fault w₂ (stepped r r.height) w' r' → Paced code x m w r w' r'
-  unfolding executed answer
-  paced_faults {w'} {r'} o d =
-      let e : none ≡ execute code x (abs w₁ s) = rw o at t.does in
+  pub paced_faults : {w' : List ℕ} {r' z : Registers} → q ≡ None → z ≡ stepped r r.height → Done fault w₂ z w' r' → Paced code x m w r w' r'
+  unfolding executed
+  paced_faults o i f =
+      let d = rw i at f in
+      let u : Tried (execute code x) w₁ s w₂ None = rw o at t in
+      let e : none ≡ execute code x (abs w₁ s) = u.does in
       let z : abs w₂ (stepped r r.height) ≡ abs w₁ s = rw (t.back o, be.registers) in
       record { good = d.good; does = d.does ∙ ap fault z ∙ (rw (began, ← e)); keeps = d.keeps ∙ (t.keeps ∙ be.keeps); counted = d.counted }
 
@@ -90,9 +93,13 @@ unfolding code_of
 some_code zero b = refl
 some_code (suc n) b = some_code n b
 
--- a step that has failed may recover
-pub faults_within : {w w₁ w₂ b : List ℕ} {r s p : Registers} (f : Code → State → Option State) (n o : ℕ) → Begun n w r w₁ s → ((code : Code) → b ≡ bytes_of code o → Tried (f code) w₁ s w₂ p) → p.ok ≡ false → Good w₂ (stepped r r.height) × (r.errors < r.steps + 1)
-faults_within {b} f n o be t k = faults n be (t (code_of o b) (some_code o b)) k
+-- a step that has not failed may settle, and one that has may recover
+module _ {w w₁ w₂ b : List ℕ} {r s : Registers} {q : Perhaps} (f : Code → State → Option State) (n o : ℕ) (be : Begun n w r w₁ s) (t : (code : Code) → b ≡ bytes_of code o → Tried (f code) w₁ s w₂ q) where
+  pub settles_within : {p : Registers} → q ≡ Some p → Good w₂ p × (p.errors < p.steps)
+  settles_within e = may_settle (t (code_of o b) (some_code o b)) e
+
+  pub faults_within : {z : Registers} → q ≡ None → z ≡ stepped r r.height → Good w₂ z × (z.errors < z.steps)
+  faults_within e i = faults n be (t (code_of o b) (some_code o b)) e i
 
 -- the body in which a step begins has the bytes that it had
 begun_by : (n : ℕ) (s : State) (cs : List Context) → s.contexts ≡ cs → (running (begun_in n cs s).contexts).origin ≡ (running cs).origin

@@ -29,9 +29,9 @@ use Rattle.machine.specs.Step.{effect_at, execute}
 use Rattle.operands.proofs.Reading.{no_card, is_card, when_so, when_not}
 use Rattle.state.specs.declared.Registers.{Registers}
 use Rattle.state.specs.declared.Tops.{Tops}
-use Rattle.state.specs.Layout.{value_in, stack_of, Busy, answer, Tried, Topmost}
+use Rattle.state.specs.Layout.{value_in, stack_of, Busy, Perhaps, Tried, Topmost}
 use Rattle.state.specs.Operations as table
-use Rattle.state.proofs.Trying.{trying, failed, tried_no}
+use Rattle.state.proofs.Trying.{trying, tried_no}
 use Rattle.state.proofs.Cutting.{over_above}
 use Rattle.effects.proofs.Acting.{is_acts, by_works, by_inline, nothing_done, is_fail}
 use Rattle.effects.proofs.Executing.{busy_lower, holder_few, holder_done}
@@ -41,7 +41,7 @@ use Rattle.sprints.proofs.Flatness.{flat}
 
 -- ---- IF
 
-pub inline_made : {w w' : List ℕ} {r r' : Registers} (code : Code) (b : List ℕ) (start end at e : ℕ) → b ≡ bytes_of code (origin w r.depth) → at ≡ solid b start → e ≡ end → start ≤ end → Tried (table.inline at e false) w r w' r' → Tried (inline code start (end - start) false) w r w' r'
+pub inline_made : {w w' : List ℕ} {r : Registers} {r' : Perhaps} (code : Code) (b : List ℕ) (start end at e : ℕ) → b ≡ bytes_of code (origin w r.depth) → at ≡ solid b start → e ≡ end → start ≤ end → Tried (table.inline at e false) w r w' r' → Tried (inline code start (end - start) false) w r w' r'
 inline_made {w} {w'} {r} {r'} code b start end at e eb ea ee h t =
     let z : e ≡ start + (end - start) = omega arith in
     inline_as code b start (origin w r.depth) refl eb (end - start) at false ea (rw z at t)
@@ -55,24 +55,24 @@ unfolding body_arity
 if_one = (refl, omega arith)
 
 module _ {w : List ℕ} {r : Registers} (code : Code) (start len : ℕ) (t : Tops) (g : Busy w r) (et : Topmost (above (stack_of (slots w) r.height)) t) where
-  pub if_few : {r' : Registers} → t.count < 1 → r' ≡ failed r → Tried (execute code (WithBody 239 start len)) w r w r'
+  pub if_few : {r' : Perhaps} → t.count < 1 → r' ≡ None → Tried (execute code (WithBody 239 start len)) w r w r'
   if_few {r'} h q = holder_few code 239 start len 1 If t g if_is if_one et h q
 
   module _ (h : 1 ≤ t.count) (x : Value) (ex : x ≡ value_in t.first) (c : Option ℕ) (ec : c ≡ cardinal? x) where
-    pub if_fails : {r' : Registers} → c ≡ None → r' ≡ failed r → Tried (execute code (WithBody 239 start len)) w r w r'
-    unfolding body_effect answer
+    pub if_fails : {r' : Perhaps} → c ≡ None → r' ≡ None → Tried (execute code (WithBody 239 start len)) w r w r'
+    unfolding body_effect
     if_fails {r'} e q =
         let u = holder_done code 239 start len 1 If t g if_is if_one et x None h ex (no_card x _ ec e) refl (is_fail code None (busy_lower 1 g refl) refl refl) in
-        tried_no {f = execute code (WithBody 239 start len)} g (sym u.does) q
+        tried_no {f = execute code (WithBody 239 start len)} (sym u.does) q
 
-    module _ (i : ℕ) (e : c ≡ Some i) (q : Registers) (eq : q ≡ trying r (r.height - 1) r.depth r.used r.ok) where
-      pub if_passes : {r' : Registers} → i ≡ 0 → r' ≡ trying q q.height q.depth q.used true → Tried (execute code (WithBody 239 start len)) w r w r'
+    module _ (i : ℕ) (e : c ≡ Some i) (q : Registers) (eq : q ≡ trying r (r.height - 1) r.depth r.used) where
+      pub if_passes : {r' : Perhaps} → i ≡ 0 → r' ≡ Some (trying q q.height q.depth q.used) → Tried (execute code (WithBody 239 start len)) w r w r'
       unfolding body_effect
       if_passes {r'} z k =
           holder_done code 239 start len 1 If t g if_is if_one et x (Some (Acts (Works Nothing))) h ex (when_so _ _ (eq-eqb i 0 z) ∙ is_card x _ ec e) eq
           (is_acts code (Some (Acts (Works Nothing))) (Works Nothing) refl (by_works code (Works Nothing) Nothing refl (nothing_done code (busy_lower 1 g eq) k)))
 
-      pub if_enters : {w' : List ℕ} {r' : Registers} → (i ≡ 0 → ⊥) → Tried (inline code start len false) w q w' r' → Tried (execute code (WithBody 239 start len)) w r w' r'
+      pub if_enters : {w' : List ℕ} {r' : Perhaps} → (i ≡ 0 → ⊥) → Tried (inline code start len false) w q w' r' → Tried (execute code (WithBody 239 start len)) w r w' r'
       unfolding body_effect
       if_enters {w'} {r'} z d =
           holder_done code 239 start len 1 If t g if_is if_one et x (Some (Acts (Inline start len false))) h ex (when_not _ _ (ne_eqb i 0 z) ∙ is_card x _ ec e) eq

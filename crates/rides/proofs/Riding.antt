@@ -43,17 +43,19 @@ use Rattle.contexts.proofs.Entering.{begin_done}
 use Rattle.sprints.specs.declared.Reach.{Reach}
 use Rattle.sprints.specs.Swift.{marked, origin, ending, ahead, lifted, LiteralsLeft, Rowed}
 use Rattle.sprints.proofs.Ahead.{moved_same, execute_free, begun_is, ended_ahead, settle_ahead, due_ahead, step_ahead}
-use Rattle.sprints.proofs.Swiftly.{op_role, by_number, not_ended, run_last, none_run, good_as}
+use Rattle.sprints.proofs.Swiftly.{op_role, by_number, not_ended, run_last, none_run}
 use Rattle.rides.specs.declared.Further.{Further}
 use Rattle.rides.specs.declared.Seat.{Seat}
-use Rattle.rides.specs.Rides.{Paced, Alighted, Led, PastHeld}
+use Rattle.rides.specs.declared.Ridden.{Ridden}
+use Rattle.rides.specs.declared.Ridden.TheVariants.{Due, On}
+use Rattle.rides.specs.Rides.{ridden, Paced, Alighted, Led, PastHeld}
 use Rattle.rides.proofs.Holding.{over_flat, over_is, over_role, if_role}
 
 -- ---- the running body
 
 -- the registers within a row: one step more is counted
 abbrev pub held : Registers → Registers
-held r = record { height = r.height; depth = r.depth; used = r.used; steps = r.steps + 1; errors = r.errors; skipping = r.skipping; ok = false }
+held r = record { height = r.height; depth = r.depth; used = r.used; steps = r.steps + 1; errors = r.errors; skipping = r.skipping }
 
 pub busy_held : {w : List ℕ} {r : Registers} (most : ℕ) → Good w r → 0 < r.depth → r.steps + most ≤ 1000000 → Busy w (held r)
 busy_held most g d h =
@@ -83,11 +85,11 @@ start_ahead w r at e =
     (sym (moved_same (contexts_of (slots w) r.depth) at e))
 
 module _ (w w' : List ℕ) (r : Registers) (p n : ℕ) (g : Good w r) (runs : 0 < r.depth) (few : r.steps < 4294967295) (e : slots w' ≡ goes_to (slots w) r.depth p) where
-  goes : Begun p w r w' (record { height = r.height; depth = r.depth; used = r.used; steps = r.steps + 1; errors = r.errors; skipping = r.skipping; ok = r.ok })
+  goes : Begun p w r w' (record { height = r.height; depth = r.depth; used = r.used; steps = r.steps + 1; errors = r.errors; skipping = r.skipping })
   goes = begin_done p g runs few e refl
 
-  goes_ahead : (b : Bool) → abs w' (record { height = r.height; depth = r.depth; used = r.used; steps = n; errors = r.errors; skipping = r.skipping; ok = b }) ≡ ahead p n (abs w r)
-  goes_ahead b =
+  goes_ahead : abs w' (record { height = r.height; depth = r.depth; used = r.used; steps = n; errors = r.errors; skipping = r.skipping }) ≡ ahead p n (abs w r)
+  goes_ahead =
       ap (λ (s : State). record { stack = s.stack; contexts = s.contexts; frame = s.frame; cells = s.cells; skipping = s.skipping; steps = n; errors = s.errors })
       (goes.does ∙ begun_is (abs w r) (context_at (slots w) (r.depth - 1)) (contexts_of (slots w) (r.depth - 1)) (contexts_top (slots w) r.depth runs) p)
 
@@ -95,7 +97,7 @@ module _ (w w' : List ℕ) (r : Registers) (p n : ℕ) (g : Good w r) (runs : 0 
 
 module _ (w w₁ : List ℕ) (r : Registers) (p at end : ℕ) (g : Good w r) (runs : 0 < r.depth) (quiet : r.skipping ≡ false) (few : r.steps < 4294967295) (ep : at ≡ p) (moves : slots w₁ ≡ goes_to (slots w) r.depth at) (long : length w₁ ≡ length w) where
   there : abs w₁ r ≡ ahead p r.steps (abs w r)
-  there = rw (← ep) (goes_ahead w w₁ r at r.steps g runs few moves r.ok)
+  there = rw (← ep) (goes_ahead w w₁ r at r.steps g runs few moves)
 
   pub good_there : Good w₁ r
   good_there = record { room = omega (arith, g.room, long); stack_fits = g.stack_fits; depth_fits = g.depth_fits; cells_fit = g.cells_fit; frames_fit = (goes w w₁ r at 0 g runs few moves).busy.frames_fit; errors_fit = g.errors_fit }
@@ -104,29 +106,28 @@ module _ (w w₁ : List ℕ) (r : Registers) (p at end : ℕ) (g : Good w r) (ru
   kept = (goes w w₁ r at 0 g runs few moves).keeps
 
   -- it has not ended
-  pub alights_on : end ≡ ending w r.depth → at < end → Alighted p w r w₁ r
+  pub alights_on : end ≡ ending w r.depth → at < end → Alighted p w r w₁ (Due r)
   alights_on ee h =
       record {
         good = good_there;
         does = there ∙ sym (settle_ahead (abs w r) (context_at (slots w) (r.depth - 1)) (contexts_of (slots w) (r.depth - 1)) (contexts_top (slots w) r.depth runs) p r.steps quiet (omega arith));
         keeps = kept;
         counted = refl;
-        runs = λ _. runs;
-        on = λ _. quiet;
+        runs = runs;
+        on = quiet;
       }
 
   -- bodies that have ended are left
-  pub alights : {w' : List ℕ} {q : Registers} (r' : Registers) → Done settle w₁ r w' q → r' ≡ record { height = q.height; depth = q.depth; used = q.used; steps = q.steps; errors = q.errors; skipping = q.skipping; ok = false } → Alighted p w r w' r'
-  alights r' d e =
-      rw e
-      (record {
-        good = good_as _ d.good;
+  pub alights : {w' : List ℕ} {q : Registers} → Done settle w₁ r w' q → Alighted p w r w' (On q)
+  alights d =
+      record {
+        good = d.good;
         does = d.does ∙ ap settle there;
         keeps = d.keeps ∙ kept;
         counted = d.counted;
-        runs = λ h. not_on h;
-        on = λ h. not_on h;
-      })
+        runs = tt;
+        on = tt;
+      }
 
 -- ---- a row and the step that ends it
 
@@ -170,8 +171,8 @@ pub next_inside : (b : List ℕ) (at n next : ℕ) → token_at b at ≡ Ok (rea
 next_inside b at n next e = (rw e at (token_inside b at)).1
 
 -- the registers after a row
-abbrev pub after : Registers → ℕ → Reach → Bool → Registers
-after r most t k = record { height = t.height; depth = r.depth; used = r.used; steps = r.steps + (most - t.left); errors = r.errors; skipping = r.skipping; ok = k }
+abbrev pub after : Registers → ℕ → Reach → Registers
+after r most t = record { height = t.height; depth = r.depth; used = r.used; steps = r.steps + (most - t.left); errors = r.errors; skipping = r.skipping }
 
 -- a row from w to w₁: what the step that ends it starts from
 pub record Rode (code : Code) (b w w₁ : List ℕ) (r : Registers) (at most : ℕ) (t : Reach) : Type 0 where
@@ -212,8 +213,8 @@ module _ {code : Code} {b w w₁ : List ℕ} {r : Registers} {at most : ℕ} {t 
   abbrev o : Rowed code b at r.steps most w (held r) w₁ t
   o = ρ.row
 
-  pub good_row : (k : Bool) → Good w₁ (after r most t k)
-  good_row k = record { room = omega (arith, g.room, o.long); stack_fits = o.fits; depth_fits = g.depth_fits; cells_fit = g.cells_fit; frames_fit = o.frames; errors_fit = omega (arith, g.errors_fit) }
+  pub good_row : Good w₁ (after r most t)
+  good_row = record { room = omega (arith, g.room, o.long); stack_fits = o.fits; depth_fits = g.depth_fits; cells_fit = g.cells_fit; frames_fit = o.frames; errors_fit = omega (arith, g.errors_fit) }
 
   pub bytes_row : b ≡ bytes_of code (origin w₁ r.depth)
   bytes_row = rw o.stays eb
@@ -264,10 +265,10 @@ module _ {code : Code} {b w w₁ : List ℕ} {r : Registers} {at most : ℕ} {t 
         (λ l. let z : u.left ≡ t.left = omega (arith, go.fewer) in rw (go.stays z) (f (omega arith)))
 
   -- a literal that is due after it
-  module _ {w₂ : List ℕ} {z : Registers} (x : Literal) (m : ℕ) (on : run (most - t.left) code (ahead at r.steps (abs w (held r))) ≡ ahead t.at (r.steps + (most - t.left)) (abs w₁ (after r most t true)))
-      (found : found_at b t.at ≡ record { literal = x; next = m }) (p : Paced code x m w₁ (after r most t true) w₂ z) where
+  module _ {w₂ : List ℕ} {z : Registers} (x : Literal) (m : ℕ) (on : run (most - t.left) code (ahead at r.steps (abs w (held r))) ≡ ahead t.at (r.steps + (most - t.left)) (abs w₁ (after r most t)))
+      (found : found_at b t.at ≡ record { literal = x; next = m }) (p : Paced code x m w₁ (after r most t) w₂ z) where
     abbrev s : State
-    s = abs w₁ (after r most t true)
+    s = abs w₁ (after r most t)
 
     top : s.contexts ≡ context_at (slots w₁) (r.depth - 1) ∷ contexts_of (slots w₁) (r.depth - 1)
     top = contexts_top (slots w₁) r.depth runs
@@ -281,61 +282,67 @@ module _ {code : Code} {b w w₁ : List ℕ} {r : Registers} {at most : ℕ} {t 
         ∙ due_ahead s c cs top code b t.at (r.steps + (most - t.left)) m x bytes_row found quiet
         ∙ ap (λ (u : State). executed u (execute code x u)) (sym (begun_is s c cs top m)) ∙ sym p.does
 
-    pub led_paced : 0 < t.left → (r' : Registers) → r' ≡ record { height = z.height; depth = z.depth; used = z.used; steps = z.steps; errors = z.errors; skipping = z.skipping; ok = false } → Led code most w r w₂ r'
-    led_paced h r' e =
+    pub led_paced : 0 < t.left → Led code most w r w₂ (On z)
+    led_paced h =
         let k : z.steps - r.steps ≡ suc (most - t.left) = omega (arith, p.counted) in
-        rw e
-        (record {
-          good = good_as false p.good;
+        record {
+          good = p.good;
           does = rw k one_more;
           keeps = p.keeps ∙ o.keeps;
           since = omega (arith, p.counted);
           within = omega (arith, p.counted, few);
-          some = λ _. omega (arith, p.counted);
-          more = λ h. not_on h;
-          runs = λ h. not_on h;
-          executes = λ h. not_on h;
-        })
+          some = omega (arith, p.counted);
+          more = tt;
+          runs = tt;
+          executes = tt;
+        }
 
   -- the literal that is due after it fails
-  pub fails_row : (m : ℕ) → t.failed ≡ true → execute code (found_at b t.at).literal (begun m (abs w₁ (after r most t true))) ≡ none
+  pub fails_row : (m : ℕ) → t.failed ≡ true → execute code (found_at b t.at).literal (begun m (abs w₁ (after r most t))) ≡ none
   fails_row m f =
-      ap (execute code (found_at b t.at).literal) (begun_is (abs w₁ (after r most t true)) (context_at (slots w₁) (r.depth - 1)) (contexts_of (slots w₁) (r.depth - 1)) (contexts_top (slots w₁) r.depth runs) m)
+      ap (execute code (found_at b t.at).literal) (begun_is (abs w₁ (after r most t)) (context_at (slots w₁) (r.depth - 1)) (contexts_of (slots w₁) (r.depth - 1)) (contexts_top (slots w₁) r.depth runs) m)
       ∙ (o.falls f).1 m (suc (r.steps + (most - t.left)))
 
   -- the row ends its body, or before a literal that is left to others
-  pub led_alights : {w₂ : List ℕ} {z : Registers} → Alighted (solid b t.at) w₁ (after r most t true) w₂ z → t.left < most → (k : Bool) → (k ≡ true → (z.ok ≡ true) × (0 < t.left)) → (r' : Registers)
-      → r' ≡ record { height = z.height; depth = z.depth; used = z.used; steps = z.steps; errors = z.errors; skipping = z.skipping; ok = k } → Led code most w r w₂ r'
-  led_alights {w₂} {z} a less k i r' e =
-      let n : z.steps - r.steps ≡ most - t.left = omega (arith, a.counted) in
-      let off : run (most - t.left) code (abs w r) ≡ abs w₂ z = (rw (start_ahead w r at ea) (o.does less)) ∙ sym a.does in
-      rw e
-      (record {
-        good = good_as k a.good;
-        does = rw n off;
-        keeps = a.keeps ∙ o.keeps;
-        since = omega (arith, a.counted);
-        within = omega (arith, a.counted, few);
-        some = λ _. omega (arith, a.counted);
-        more = λ h. let l = i h in omega (arith, a.counted, l.1, few);
-        runs = λ h. a.runs (i h).0;
-        executes = λ h. rw (a.on (i h).0);
-      })
+  module _ {w₂ : List ℕ} {x : Ridden} (a : Alighted (solid b t.at) w₁ (after r most t) w₂ x) (less : t.left < most) where
+    off : run ((ridden x).steps - r.steps) code (abs w r) ≡ abs w₂ (ridden x)
+    off =
+        let n : (ridden x).steps - r.steps ≡ most - t.left = omega (arith, a.counted) in
+        rw n ((rw (start_ahead w r at ea) (o.does less)) ∙ sym a.does)
+
+    pub led_on : Led code most w r w₂ (On (ridden x))
+    led_on = record {
+      good = a.good;
+      does = off;
+      keeps = a.keeps ∙ o.keeps;
+      since = omega (arith, a.counted);
+      within = omega (arith, a.counted, few);
+      some = omega (arith, a.counted);
+      more = tt;
+      runs = tt;
+      executes = tt;
+    }
+
+  pub led_alights : {w₂ : List ℕ} (x : Ridden) → Alighted (solid b t.at) w₁ (after r most t) w₂ x → t.left < most → 0 < t.left → Led code most w r w₂ x
+  led_alights (On z) a less l = led_on a less
+  led_alights (Due z) a less l =
+      let u = led_on a less in
+      record { good = u.good; does = u.does; keeps = u.keeps; since = u.since; within = u.within; some = tt; more = omega (arith, a.counted, few); runs = a.runs; executes = rw a.on }
 
   -- nothing was done
-  pub led_idle : t.left ≡ most → 0 < most → Led code most w r w₁ (after r most t true)
+  pub led_idle : t.left ≡ most → 0 < most → Led code most w r w₁ (Due (after r most t))
   led_idle e h =
       let u = o.idle e in
       let z : r.steps + (most - t.left) - r.steps ≡ most - most = omega arith in
       let n : r.steps + (most - t.left) ≡ r.steps = omega arith in
       record {
-        good = good_row true;
+        good = good_row;
         does = rw (z, u.0, u.1, n) (none_run code most (abs w r));
         keeps = o.keeps;
         since = omega arith;
         within = omega arith;
-        some = λ k. not_on (sym k);
-        more = λ _. omega arith;
-        runs = λ _. runs;
-        executes = λ _. rw quiet;
+        some = tt;
+        more = omega arith;
+        runs = runs;
+        executes = rw quiet;
       }

@@ -2,7 +2,7 @@
 // one, each in line. Any other literal is left to `engine`.
 #![tactic(auto)]
 
-ghost use Rattle.std.specs.Prelude.{◌≡◌, true, false, [], ◌∷◌, ◌+◌, ◌-◌, ◌<◌, ◌≤◌, length};
+ghost use Rattle.std.specs.Prelude.{◌≡◌, IfSome, true, false, [], ◌∷◌, ◌+◌, ◌-◌, ◌<◌, ◌≤◌, length};
 ghost use Rattle.std.proofs.Math.Option.{none};
 ghost use types.Run.{OneOf};
 ghost use Rattle.table.specs.Slots.{slots};
@@ -20,7 +20,7 @@ ghost use Rattle.state.specs.Layout.{contexts_of, abs, Good, Busy, Tried};
 ghost use Rattle.spans.specs.Memo.{BodyEnds};
 ghost use Rattle.origins.specs.Bodies.{Short, Noting};
 ghost use Rattle.sprints.specs.Swift.{origin, ending};
-ghost use Rattle.rides.specs.Rides.{Paced, Alighted, Led, PastHeld};
+ghost use Rattle.rides.specs.Rides.{ridden, Paced, Alighted, Led, PastHeld};
 
 use machine::Value;
 use state::Registers;
@@ -47,31 +47,44 @@ fn seat_of(w: &[u8], depth: usize) -> Seat
     }
 }
 
-// The running body, whose bytes are b, goes on past the token that ends at p: the table learns it, and bodies that have ended are left. `ok`
-// stays where none has ended.
-fn alight(w: &mut [u8], r: Registers, b: &[u8], p: usize, end: usize) -> Registers
+// Where steps have come to. Due: a body runs on, and nothing is skipped. On: nothing is said of the literal that is due.
+#[derive(Clone, Copy)]
+pub enum Ridden {
+    Due(Registers),
+    On(Registers),
+}
+
+// Nothing is said of the literal that is due.
+fn on(x: Ridden) -> Ridden
+    ensures { result ≡ On (ridden x) }
+{
+    match x {
+        Ridden::Due(p) | Ridden::On(p) => Ridden::On(p),
+    }
+}
+
+// The running body, whose bytes are b, goes on past the token that ends at p: the table learns it, and bodies that have ended are left.
+fn alight(w: &mut [u8], r: Registers, b: &[u8], p: usize, end: usize) -> Ridden
     requires { Good w.old r × (0 < r.depth) × (r.skipping ≡ false) × (r.errors < r.steps) × (r.steps < 4294967295) × (length b.now ≤ 16777215) × (p ≤ length b.now) × (end ≡ ending w.old r.depth) }
     ensures { Alighted (solid b.now p) w.old r w.new result }
 {
     let at = nesting::bodies::past_comments(b, p);
     contexts::bodies::go_to(w, r.depth, table::words::word(at));
     if at < end {
-        return r;
+        return Ridden::Due(r);
     }
-    let mut q = recovery::ends::settle(w, r);
-    q.ok = false;
-    q
+    Ridden::On(recovery::ends::settle(w, r))
 }
 
 // ---- DO
 
-fn run_operator<'a>(w: &mut [u8], r: Registers, pre: &'a [u8], body: &'a [u8]) -> Registers
+fn run_operator<'a>(w: &mut [u8], r: Registers, pre: &'a [u8], body: &'a [u8]) -> Option<Registers>
     requires { Busy w.old r × Short pre.now body.now }
     ensures { Tried (execute (both pre.now body.now) (Plain 231)) w.old r w.new result }
 {
     let t = state::stack::tops(w, r.height);
     if t.count < 1 {
-        return state::stack::failed(r);
+        return None;
     }
     let Value::Operator {
         origin,
@@ -80,12 +93,14 @@ fn run_operator<'a>(w: &mut [u8], r: Registers, pre: &'a [u8], body: &'a [u8]) -
         first,
     } = state::values::value_of(t.first)
     else {
-        return state::stack::failed(r);
+        return None;
     };
-    let mut q = r;
-    q.height = r.height - 1;
+    let q = Registers {
+        height: r.height - 1,
+        ..r
+    };
     let Some(k) = effects::callee_of(r.used, pre, body, origin, start, len, first) else {
-        return state::stack::failed(q);
+        return None;
     };
     contexts::bodies::call(w, q, origin, k.at, k.end, table::words::size(first))
 }
@@ -96,13 +111,10 @@ fn pace_do<'a>(w: &mut [u8], r: Registers, pre: &'a [u8], body: &'a [u8], next: 
     ensures { Paced (both pre.now body.now) (Plain 231) next w.old r w.new result }
 {
     let s = contexts::bodies::begin(w, r, table::words::word(next));
-    let p = run_operator(w, s, pre, body);
-    if p.ok {
-        return recovery::ends::settle(w, p);
+    match run_operator(w, s, pre, body) {
+        Some(p) => recovery::ends::settle(w, p),
+        None => recovery::ends::fault(w, state::counted(r)),
     }
-    let mut q = r;
-    q.steps = r.steps + 1;
-    recovery::ends::fault(w, q)
 }
 
 // ---- a literal that fails
@@ -181,31 +193,33 @@ fn past_held(
 }
 
 // The body of an IF entered: of the running body, whose bytes are b, from `start` to `end`.
-fn enter_if(w: &mut [u8], r: Registers, b: &[u8], start: usize, end: usize) -> Registers
+fn enter_if(w: &mut [u8], r: Registers, b: &[u8], start: usize, end: usize) -> Option<Registers>
     requires { Busy w.old r × (length b.now ≤ 16777215) × (start ≤ end) × (end ≤ length b.now) }
-    ensures { Busy w.new result × ((code : Code) → b.now ≡ bytes_of code (origin w.old r.depth) → Tried (inline code start (end - start) false) w.old r w.new result) }
+    ensures { IfSome result (Busy w.new) × ((code : Code) → b.now ≡ bytes_of code (origin w.old r.depth) → Tried (inline code start (end - start) false) w.old r w.new result) }
 {
     let at = nesting::bodies::past_comments(b, start);
     contexts::bodies::inline(w, r, table::words::word(at), table::words::word(end), false)
 }
 
 // IF with its body, from `start` to `end`.
-fn if_so(w: &mut [u8], r: Registers, b: &[u8], start: usize, end: usize) -> Registers
+fn if_so(w: &mut [u8], r: Registers, b: &[u8], start: usize, end: usize) -> Option<Registers>
     requires { Busy w.old r × (length b.now ≤ 16777215) × (start ≤ end) × (end ≤ length b.now) }
-    ensures { Busy w.new result × ((code : Code) → b.now ≡ bytes_of code (origin w.old r.depth) → Tried (execute code (WithBody 239 start (end - start))) w.old r w.new result) }
+    ensures { IfSome result (Busy w.new) × ((code : Code) → b.now ≡ bytes_of code (origin w.old r.depth) → Tried (execute code (WithBody 239 start (end - start))) w.old r w.new result) }
 {
     let t = state::stack::tops(w, r.height);
     if t.count < 1 {
-        return state::stack::failed(r);
+        return None;
     }
     let x = state::values::value_of(t.first);
     let Some(i) = operands::values::cardinal(x) else {
-        return state::stack::failed(r);
+        return None;
     };
-    let mut q = r;
-    q.height = r.height - 1;
+    let q = Registers {
+        height: r.height - 1,
+        ..r
+    };
     if i == 0 {
-        return effects::done(q);
+        return Some(q);
     }
     enter_if(w, q, b, start, end)
 }
@@ -217,27 +231,13 @@ fn pace_if(w: &mut [u8], r: Registers, b: &[u8], brace: usize, end: usize) -> Re
 {
     let past = nesting::bodies::past_comments(b, end);
     let s = contexts::bodies::begin(w, r, table::words::word(past));
-    let p = if_so(w, s, b, brace + 2, end - 2);
-    if p.ok {
-        return recovery::ends::settle(w, p);
+    match if_so(w, s, b, brace + 2, end - 2) {
+        Some(p) => recovery::ends::settle(w, p),
+        None => recovery::ends::fault(w, state::counted(r)),
     }
-    let mut q = r;
-    q.steps = r.steps + 1;
-    recovery::ends::fault(w, q)
 }
 
 // ---- several
-
-// The registers within a row: one step more is counted.
-fn rowing(r: Registers) -> Registers
-    requires { r.steps < 4294967295 }
-    ensures { result ≡ record { height = r.height; depth = r.depth; used = r.used; steps = r.steps + 1; errors = r.errors; skipping = r.skipping; ok = false } }
-{
-    let mut q = r;
-    q.steps = r.steps + 1;
-    q.ok = false;
-    q
-}
 
 // A row of literals, and the step that ends it, or up to a literal that wants a step of its own. `early` has notes on where bodies of the
 // preamble end, and `notes` on those of the page (DECISIONS, D72); both are left with more.
@@ -249,50 +249,45 @@ pub fn ride<'a>(
     early: &mut [u32],
     notes: &mut [u32],
     most: usize,
-) -> Registers
+) -> Ridden
     requires { Good w.old r × (0 < r.depth) × (r.skipping ≡ false) × (0 < most) × (r.steps + most ≤ 1000000) × Short pre.now body.now × Noting pre.now body.now early.old notes.old × Legible (both pre.now body.now) (abs w.old r) }
     ensures { Led (both pre.now body.now) most w.old r w.new result × Noting pre.now body.now early.new notes.new }
 {
     let s = seat_of(w, r.depth);
     let b = origins::bytes_of(pre, body, s.origin);
     // two more than need be, so that a mark on what the row begins with is placed within it
-    let t = sprints::row(w, rowing(r), b, s.at, s.end, most, r.height + 2);
-    let mut q = r;
-    q.height = t.height;
-    q.steps = r.steps + (most - t.left);
-    q.ok = true;
+    let t = sprints::row(w, state::counted(r), b, s.at, s.end, most, r.height + 2);
+    let mut q = Registers {
+        height: t.height,
+        steps: r.steps + (most - t.left),
+        ..r
+    };
     if t.failed {
-        let mut z = pace_fault(w, q, nesting::bodies::past_comments(b, t.next));
-        z.ok = false;
-        return z;
+        let z = pace_fault(w, q, nesting::bodies::past_comments(b, t.next));
+        return Ridden::On(z);
     }
     if t.number == 231 {
-        let mut z = pace_do(w, q, pre, body, nesting::bodies::past_comments(b, t.next));
-        z.ok = false;
-        return z;
+        let z = pace_do(w, q, pre, body, nesting::bodies::past_comments(b, t.next));
+        return Ridden::On(z);
     }
     if t.number == 239 {
         let brace = nesting::bodies::past_comments(b, t.next);
         let end = span_end(pre, body, early, notes, s.origin, brace);
-        let mut z = pace_if(w, q, b, brace, end);
-        z.ok = false;
-        return z;
+        return Ridden::On(pace_if(w, q, b, brace, end));
     }
     let u = past_held(
         pre, body, early, notes, s.origin, t.number, t.next, t.at, t.left,
     );
     if u.left == most {
-        return q;
+        return Ridden::Due(q);
     }
     q.steps = r.steps + (most - u.left);
-    let mut z = alight(w, q, b, u.at, s.end);
+    let z = alight(w, q, b, u.at, s.end);
     if u.left == 0 {
-        z.ok = false;
-        return z;
+        return on(z);
     }
     if u.left < t.left {
-        z.ok = false;
-        return z;
+        return on(z);
     }
     z
 }

@@ -418,6 +418,10 @@ name_flat start len s = refl
 pub found_due : (f : Found) (d : Due) (x : Literal) → dues.Is f d → d.literal ≡ x → f ≡ record { literal = x; next = d.next }
 found_due f d x i e = λ k. record { literal = (sym i.literal ∙ e) k; next = (sym i.next) k }
 
+-- what was done may settle
+pub settles : {w : List ℕ} {r : Registers} → Busy w r → Good w r × (r.errors < r.steps)
+settles b = (record { room = b.room; stack_fits = b.stack_fits; depth_fits = b.depth_fits; cells_fit = b.cells_fit; frames_fit = b.frames_fit; errors_fit = omega (arith, b.errors_fit) }, b.errors_fit)
+
 -- ---- a step but for the end of bodies
 
 module _ {code : Code} {b w : List ℕ} {at : ℕ} {r : Registers} (ready : Ready code b at w r) where
@@ -429,9 +433,9 @@ module _ {code : Code} {b w : List ℕ} {at : ℕ} {r : Registers} (ready : Read
         rw (← ready.bytes, ← ready.place, found, ← en, ← be.does, e)
 
     -- tried
-    pub attempted : {w' : List ℕ} (p : Perhaps) (x : Literal) → found_at b at ≡ record { literal = x; next = past } → Tried (execute code x) w₁ q w' p → Attempted code w r w' p
+    pub attempted : {w' : List ℕ} {p : Perhaps} (x : Literal) → found_at b at ≡ record { literal = x; next = past } → Tried (execute code x) w₁ q w' p → Attempted code w r w' p
     unfolding executed
-    attempted {w'} (Some p) x found t = record {
+    attempted {w' = w'} {p = Some p} x found t = record {
       busy = t.busy;
       counted = t.counted ∙ be.counted;
       keeps = t.keeps ∙ be.keeps;
@@ -439,9 +443,9 @@ module _ {code : Code} {b w : List ℕ} {at : ℕ} {r : Registers} (ready : Read
           let d : some (abs w' p) ≡ execute code x (abs w₁ q) = t.does in
           sym (due_step x found ∙ (rw (← d)));
       fails = tt;
-      frames = tt;
+      good = tt;
     }
-    attempted {w'} None x found t = record {
+    attempted {w' = w'} {p = None} x found t = record {
       busy = tt;
       counted = tt;
       keeps = t.keeps ∙ be.keeps;
@@ -450,7 +454,7 @@ module _ {code : Code} {b w : List ℕ} {at : ℕ} {r : Registers} (ready : Read
           let d : none ≡ execute code x (abs w₁ q) = t.does in
           let e : abs w' (stepped r r.height) ≡ abs w₁ q = rw (t.back refl, be.registers) in
           ap fault e ∙ sym (due_step x found ∙ (rw (← d)));
-      frames = rw (t.back refl) (rw be.registers at be.busy.frames_fit);
+      good = rw (t.back refl) (settles (rw be.registers at be.busy)).0;
     }
 
 -- ---- some steps at once
@@ -498,10 +502,10 @@ none_run code n s = let z : n - n ≡ 0 = omega arith in rw z
 
 -- ---- after a step
 
--- what was done may settle
-pub settles : {w : List ℕ} {r : Registers} → Busy w r → Good w r × (r.errors < r.steps)
-settles b = (record { room = b.room; stack_fits = b.stack_fits; depth_fits = b.depth_fits; cells_fit = b.cells_fit; frames_fit = b.frames_fit; errors_fit = omega (arith, b.errors_fit) }, b.errors_fit)
+-- a step that has not failed may settle
+pub may_settle : {f : State → Option State} {w₁ w₂ : List ℕ} {s : Registers} {q : Perhaps} {p : Registers} → Tried f w₁ s w₂ q → q ≡ Some p → Good w₂ p × (p.errors < p.steps)
+may_settle {f = f} {w₁ = w₁} {w₂ = w₂} {s = s} {p = p} t e = let u : Tried f w₁ s w₂ (Some p) = rw e at t in settles u.busy
 
--- a step that has failed may recover
-pub faults : {f : State → Option State} {w w₁ w₂ : List ℕ} {r s : Registers} {p : Perhaps} (n : ℕ) → Begun n w r w₁ s → Tried f w₁ s w₂ p → p ≡ None → Good w₂ (stepped r r.height) × (r.errors < r.steps + 1)
-faults n be t o = let b = be.busy in rw (t.back o) (settles (rw be.registers at b))
+-- one that has failed may recover
+pub faults : {f : State → Option State} {w w₁ w₂ : List ℕ} {r s z : Registers} {q : Perhaps} (n : ℕ) → Begun n w r w₁ s → Tried f w₁ s w₂ q → q ≡ None → z ≡ stepped r r.height → Good w₂ z × (z.errors < z.steps)
+faults n be t o i = let b = be.busy in rw (t.back o, i) (settles (rw be.registers at b))

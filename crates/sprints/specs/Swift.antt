@@ -109,15 +109,14 @@ pub record Ready (code : Code) (b : List ℕ) (at : ℕ) (w : List ℕ) (r : Reg
   pub bytes : b ≡ bytes_of code (origin w r.depth)
   pub place : at ≡ (running (contexts_of (slots w) r.depth)).at
 
--- a literal tried within a step, and executed or not. Where it was not, the cells that it may have charged are given back, and no frame of a
--- context lies in them (`frames`)
+-- a literal tried within a step, and executed or not. Where it was not, the registers are as before, but for the step (`good`)
 pub record Attempted (code : Code) (w : List ℕ) (r : Registers) (w' : List ℕ) (q : Perhaps) : Type 0 where
   pub busy : IfSome q (Busy w')
   pub counted : IfSome q (λ r'. r'.steps ≡ r.steps + 1)
   pub keeps : aside w' ≡ aside w
   pub does : IfSome q (λ r'. settle (abs w' r') ≡ step code (abs w r))
   pub fails : IfNone q (fault (abs w' (stepped r r.height)) ≡ step code (abs w r))
-  pub frames : IfNone q (lent (slots w') r.depth ≤ r.used)
+  pub good : IfNone q (Good w' (stepped r r.height))
 
 -- ---- several
 

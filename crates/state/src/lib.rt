@@ -3,7 +3,7 @@
 // said by `Layout`; slots are made by the operations that push them.
 #![tactic(auto)]
 
-ghost use Rattle.std.specs.Prelude.{◌≡◌};
+ghost use Rattle.std.specs.Prelude.{◌≡◌, ◌+◌, ◌<◌};
 
 pub mod stack; // the values above the topmost mark
 pub mod values; // a value read from a slot, a number put into one
@@ -31,6 +31,17 @@ pub fn afresh(r: Registers) -> Registers
         steps: r.steps,
         errors: r.errors,
         skipping: r.skipping,
+    }
+}
+
+// A step more is counted.
+pub fn counted(r: Registers) -> Registers
+    requires { r.steps < 4294967295 }
+    ensures { result ≡ record { height = r.height; depth = r.depth; used = r.used; steps = r.steps + 1; errors = r.errors; skipping = r.skipping } }
+{
+    Registers {
+        steps: r.steps + 1,
+        ..r
     }
 }
 

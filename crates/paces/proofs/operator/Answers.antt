@@ -23,19 +23,19 @@ returns-in-192 c = is_unmark _ _ _ c.in-192.is c.remove.ensures
 
 pub returns-in-OnVectors : goal.returns-in-OnVectors
 returns-in-OnVectors c =
-    tried_same c.afresh.ensures c.afresh-in-OnVectors.ensures (c.on_vectors.ensures _ (sym c.in-OnVectors.is ∙ c.op_of.ensures))
+    tried_same c.afresh.ensures (c.on_vectors.ensures _ (sym c.in-OnVectors.is ∙ c.op_of.ensures))
 
 pub returns-in-Tests : goal.returns-in-Tests
 returns-in-Tests c =
-    tried_same c.afresh-in-Tests.ensures c.afresh-in-Tests-2.ensures (c.on_tests.ensures _ (sym c.in-Tests.is ∙ c.op_of.ensures))
+    tried_same c.afresh-in-Tests.ensures (c.on_tests.ensures _ (sym c.in-Tests.is ∙ c.op_of.ensures))
 
 pub returns-in-OnStack : goal.returns-in-OnStack
 returns-in-OnStack c =
-    tried_same c.afresh-in-OnStack.ensures c.afresh-in-OnStack-2.ensures (c.on_stack.ensures _ (sym c.in-OnStack.is ∙ c.op_of.ensures))
+    tried_same c.afresh-in-OnStack.ensures (c.on_stack.ensures _ (sym c.in-OnStack.is ∙ c.op_of.ensures))
 
 pub returns-in-Reckons : goal.returns-in-Reckons
 returns-in-Reckons c =
-    tried_same c.afresh-in-Reckons.ensures c.afresh-in-Reckons-2.ensures (c.on_numbers.ensures _ (sym c.in-Reckons.is ∙ c.op_of.ensures))
+    tried_same c.afresh-in-Reckons.ensures (c.on_numbers.ensures _ (sym c.in-Reckons.is ∙ c.op_of.ensures))
 
 pub returns-in_default-op_of : goal.returns-in_default-op_of
-returns-in_default-op_of c = tried_same c.afresh-in_default-op_of.ensures c.afresh-in_default-op_of-2.ensures c.plain.ensures
+returns-in_default-op_of c = tried_same c.afresh-in_default-op_of.ensures c.plain.ensures

@@ -6,18 +6,18 @@ use Rattle.rides.proofs.if_so.Goals as goal
 
 pub returns-then-t-lt1 : goal.returns-then-t-lt1
 returns-then-t-lt1 c =
-    ((if_few [] 0 0 _ c.requires.0 c.tops-t.ensures c.if-t-lt1.true c.failed.ensures).busy, λ code eb. if_few code _ _ _ c.requires.0 c.tops-t.ensures c.if-t-lt1.true c.failed.ensures)
+    ((if_few [] 0 0 _ c.requires.0 c.tops-t.ensures c.if-t-lt1.true refl).busy, λ code eb. if_few code _ _ _ c.requires.0 c.tops-t.ensures c.if-t-lt1.true refl)
 
 pub overflow_sub-q : goal.overflow_sub-q
 overflow_sub-q c = tops_fit _ _ _ _ c.tops-t.ensures c.if-t-lt1.false
 
 pub returns-then-i-eq0 : goal.returns-then-i-eq0
 returns-then-i-eq0 c =
-    ((if_passes [] 0 0 _ c.requires.0 c.tops-t.ensures c.if-t-lt1.false _ c.value_of-x.ensures _ c.cardinal.ensures.0 _ c.in-Some.is _ refl c.if-i-eq0.true c.done.ensures).busy, λ code eb. if_passes code _ _ _ c.requires.0 c.tops-t.ensures c.if-t-lt1.false _ c.value_of-x.ensures _ c.cardinal.ensures.0 _ c.in-Some.is _ refl c.if-i-eq0.true c.done.ensures)
+    ((if_passes [] 0 0 _ c.requires.0 c.tops-t.ensures c.if-t-lt1.false _ c.value_of-x.ensures _ c.cardinal.ensures.0 _ c.in-Some.is _ refl c.if-i-eq0.true refl).busy, λ code eb. if_passes code _ _ _ c.requires.0 c.tops-t.ensures c.if-t-lt1.false _ c.value_of-x.ensures _ c.cardinal.ensures.0 _ c.in-Some.is _ refl c.if-i-eq0.true refl)
 
 pub returns-in_default : goal.returns-in_default
 returns-in_default c =
-    ((if_fails [] 0 0 _ c.requires.0 c.tops-t.ensures c.if-t-lt1.false _ c.value_of-x.ensures _ c.cardinal.ensures.0 c.in_default.is c.failed-in_default.ensures).busy, λ code eb. if_fails code _ _ _ c.requires.0 c.tops-t.ensures c.if-t-lt1.false _ c.value_of-x.ensures _ c.cardinal.ensures.0 c.in_default.is c.failed-in_default.ensures)
+    ((if_fails [] 0 0 _ c.requires.0 c.tops-t.ensures c.if-t-lt1.false _ c.value_of-x.ensures _ c.cardinal.ensures.0 c.in_default.is refl).busy, λ code eb. if_fails code _ _ _ c.requires.0 c.tops-t.ensures c.if-t-lt1.false _ c.value_of-x.ensures _ c.cardinal.ensures.0 c.in_default.is refl)
 
 pub returns : goal.returns
 returns c =

@@ -7,7 +7,7 @@ use Rattle.rides.proofs.Calling.{do_few, do_made, do_fails}
 use Rattle.rides.proofs.run_operator.Goals as goal
 
 pub returns-then-t-lt1 : goal.returns-then-t-lt1
-returns-then-t-lt1 c = do_few _ _ c.requires.0 c.tops-t.ensures c.if-t-lt1.true c.failed.ensures
+returns-then-t-lt1 c = do_few _ _ c.requires.0 c.tops-t.ensures c.if-t-lt1.true refl
 
 pub overflow_sub-q : goal.overflow_sub-q
 overflow_sub-q c = tops_fit _ _ _ _ c.tops-t.ensures c.if-t-lt1.false
@@ -22,8 +22,8 @@ returns c =
 
 pub returns-in_default-callee_of : goal.returns-in_default-callee_of
 returns-in_default-callee_of c =
-    do_made _ _ c.requires.0 c.tops-t.ensures c.if-t-lt1.false _ c.value_of.ensures _ _ _ _ c.in-Operator.is refl (call_none _ _ _ _ _ (busy_lower 1 c.requires.0 refl) c.callee_of.ensures c.in_default-callee_of.is c.failed-in_default-callee_of.ensures)
+    do_made _ _ c.requires.0 c.tops-t.ensures c.if-t-lt1.false _ c.value_of.ensures _ _ _ _ c.in-Operator.is refl (call_none _ _ _ _ _ (busy_lower 1 c.requires.0 refl) c.callee_of.ensures c.in_default-callee_of.is refl)
 
 pub returns-in_default : goal.returns-in_default
 returns-in_default c =
-    do_fails _ _ c.requires.0 c.tops-t.ensures c.if-t-lt1.false _ c.value_of.ensures c.in_default.not-Operator c.failed-in_default.ensures
+    do_fails _ _ c.requires.0 c.tops-t.ensures c.if-t-lt1.false _ c.value_of.ensures c.in_default.not-Operator refl
