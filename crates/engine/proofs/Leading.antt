@@ -20,9 +20,11 @@ use Rattle.state.specs.declared.Place.{Place}
 use Rattle.state.specs.declared.Registers.{Registers}
 use Rattle.state.specs.Layout.{contexts_of, abs, Done, Begun, aside, Good}
 use Rattle.state.proofs.Ending.{not_on}
+use Rattle.rides.specs.declared.Ridden.{Ridden}
+use Rattle.rides.specs.declared.Ridden.TheVariants.{Due, On}
 use Rattle.rides.specs.Rides.{Paced, Led}
 use Rattle.machine.proofs.Legible.{Legible, legible_run}
-use Rattle.sprints.proofs.Swiftly.{run_next, run_both, good_as}
+use Rattle.sprints.proofs.Swiftly.{run_next, run_both}
 use Rattle.paces.specs.Paces.{Stepped}
 use Rattle.engine.specs.Steps.{Onward}
 
@@ -99,10 +101,6 @@ still_skips {w} {w'} {q} {r'} d h = ap (λ (s : State). s.skipping) d.does ∙ s
 pub legible_then : {s t : State} (code : Code) (n : ℕ) → Legible code s → run n code s ≡ t → Legible code t
 legible_then {s} {t} code n h e = rw (← e) (legible_run code n s h)
 
--- the step is the same whatever `ok` says
-pub quiet : {pre body w w' : List ℕ} {r r' : Registers} → Stepped pre body w r w' r' → Stepped pre body w r w' (record { height = r'.height; depth = r'.depth; used = r'.used; steps = r'.steps; errors = r'.errors; skipping = r'.skipping; ok = false })
-quiet d = record { good = good_as _ d.good; does = d.does; keeps = d.keeps; counted = d.counted }
-
 -- a literal passed over after others
 module _ (pre body w₀ w : List ℕ) (r₀ r : Registers) (most left : ℕ) (runs : 0 < r.depth) (few : left ≤ most) (sum : r.steps + left ≡ r₀.steps + most) (same : aside w ≡ aside w₀)
     (inv : run (most - left) (both pre body) (abs w₀ r₀) ≡ abs w r) where
@@ -112,8 +110,8 @@ module _ (pre body w₀ w : List ℕ) (r₀ r : Registers) (most left : ℕ) (ru
         let z : most - (left - 1) ≡ suc (most - left) = omega arith in
         rw (z, run_next (both pre body) (most - left) (abs w₀ r₀) w r inv runs) (sym d.does)
 
-    pub after_led : r'.ok ≡ false → Led (both pre body) most w₀ r₀ w' r'
-    after_led o =
+    pub after_led : Led (both pre body) most w₀ r₀ w' (On r')
+    after_led =
         let z : r'.steps - r₀.steps ≡ most - (left - 1) = omega (arith, d.counted) in
         record {
           good = d.good;
@@ -121,14 +119,14 @@ module _ (pre body w₀ w : List ℕ) (r₀ r : Registers) (most left : ℕ) (ru
           keeps = d.keeps ∙ same;
           since = omega (arith, d.counted);
           within = omega (arith, d.counted);
-          some = λ _. omega (arith, d.counted);
-          more = λ k. not_on (sym o ∙ k);
-          runs = λ k. not_on (sym o ∙ k);
-          executes = λ k. not_on (sym o ∙ k);
+          some = omega (arith, d.counted);
+          more = tt;
+          runs = tt;
+          executes = tt;
         }
 
-  pub led_all : Good w r → 0 < most → left ≤ 0 → r.ok ≡ false → Led (both pre body) most w₀ r₀ w r
-  led_all g h l o =
+  pub led_all : Good w r → 0 < most → left ≤ 0 → Led (both pre body) most w₀ r₀ w (On r)
+  led_all g h l =
       let z : r.steps - r₀.steps ≡ most - left = omega arith in
       record {
         good = g;
@@ -136,27 +134,34 @@ module _ (pre body w₀ w : List ℕ) (r₀ r : Registers) (most left : ℕ) (ru
         keeps = same;
         since = omega arith;
         within = omega arith;
-        some = λ _. omega arith;
-        more = λ k. not_on (sym o ∙ k);
-        runs = λ k. not_on (sym o ∙ k);
-        executes = λ k. not_on (sym o ∙ k);
+        some = omega arith;
+        more = tt;
+        runs = tt;
+        executes = tt;
       }
 
 -- and one step more
-module _ {w w₁ : List ℕ} {r q : Registers} (pre body : List ℕ) (most : ℕ) (t : Led (both pre body) most w r w₁ q) where
-  pub onward_paced : {w' : List ℕ} {r' : Registers} → q.ok ≡ true → Stepped pre body w₁ q w' r' → Onward (both pre body) most w r w' r'
+module _ {w w₁ : List ℕ} {r q : Registers} {x : Ridden} (pre body : List ℕ) (most : ℕ) (u : Led (both pre body) most w r w₁ x) where
+  -- what holds where the literal that is due wants a step of its own
+  pub led_due : x ≡ Due q → Led (both pre body) most w r w₁ (Due q)
+  led_due e = rw e at u
+
+  pub onward_paced : {w' : List ℕ} {r' : Registers} → x ≡ Due q → Stepped pre body w₁ q w' r' → Onward (both pre body) most w r w' r'
   onward_paced {w'} {r'} o d =
+      let t = led_due o in
       let z : r'.steps - r.steps ≡ suc (q.steps - r.steps) = omega (arith, d.counted, t.since) in
       record {
         good = d.good;
-        does = d.does ∙ (rw (z, run_next (both pre body) (q.steps - r.steps) (abs w r) w₁ q t.does (t.runs o)));
+        does = d.does ∙ (rw (z, run_next (both pre body) (q.steps - r.steps) (abs w r) w₁ q t.does t.runs));
         keeps = d.keeps ∙ t.keeps;
         some = omega (arith, d.counted, t.since);
-        within = omega (arith, d.counted, t.more o);
+        within = omega (arith, d.counted, t.more);
       }
 
-  pub onward_led : q.ok ≡ false → Onward (both pre body) most w r w₁ q
-  onward_led o = record { good = t.good; does = sym t.does; keeps = t.keeps; some = t.some o; within = t.within }
+  pub onward_led : x ≡ On q → Onward (both pre body) most w r w₁ q
+  onward_led o =
+      let t : Led (both pre body) most w r w₁ (On q) = rw o at u in
+      record { good = t.good; does = sym t.does; keeps = t.keeps; some = t.some; within = t.within }
 
 -- the steps left until the last: at first all, and some steps later so many fewer
 pub run_whole : (first n : ℕ) (code : Code) (s : State) → run (first + n - first) code s ≡ run n code s

@@ -8,8 +8,10 @@ ghost use Rattle.names.specs.Names.{both};
 ghost use Rattle.state.specs.Layout.{abs, Good};
 ghost use Rattle.origins.specs.Bodies.{Short, Noting};
 ghost use Rattle.engine.specs.Steps.{Ran, Onward};
+ghost use Rattle.rides.specs.declared.Ridden.TheVariants.{On};
 ghost use Rattle.rides.specs.Rides.{Paced, Led};
 
+use rides::Ridden;
 use spans::WORDS;
 use state::{Registers, afresh};
 
@@ -19,36 +21,29 @@ fn unmark(w: &mut [u8], r: Registers, next: usize) -> Registers
     ensures { (code : Code) → Paced code (Plain 192) next w.old r w.new result }
 {
     let s = contexts::bodies::begin(w, r, table::words::word(next));
-    let p = marks::remove(w, s, 0);
-    if p.ok {
-        return recovery::ends::settle(w, p);
+    match marks::remove(w, s, 0) {
+        Some(p) => recovery::ends::settle(w, p),
+        None => recovery::ends::fault(w, state::counted(r)),
     }
-    let mut q = r;
-    q.steps = r.steps + 1;
-    recovery::ends::fault(w, q)
 }
 
 // Literals of the running body passed over, and UNMARK0 if it comes.
 fn pass<'a>(w: &mut [u8], start: Registers, pre: &'a [u8], body: &'a [u8], most: usize) -> Registers
     requires { Good w.old start × (0 < start.depth) × (start.skipping ≡ true) × (0 < most) × (start.steps + most ≤ 1000000) × Short pre.now body.now × Legible (both pre.now body.now) (abs w.old start) }
-    ensures { Led (both pre.now body.now) most w.old start w.new result }
+    ensures { Led (both pre.now body.now) most w.old start w.new (On result) }
 {
     let depth = start.depth;
     let mut r = start;
-    r.ok = false;
     let mut left = most;
     while left > 0 {
         let c = contexts::bodies::running(w, depth);
         let b = origins::bytes_of(pre, body, c.origin);
         let d = literals::reading::ahead(b, table::words::size(c.start));
         if d.unmarks {
-            let mut q = afresh(unmark(w, r, d.next));
-            q.ok = false;
-            return q;
+            return afresh(unmark(w, r, d.next));
         }
         let q = contexts::bodies::begin(w, r, table::words::word(d.next));
         r = afresh(recovery::ends::skipped(w, q));
-        r.ok = false;
         left -= 1;
         if r.depth == depth {
             continue;
@@ -67,12 +62,12 @@ fn lead<'a>(
     early: &mut [u32],
     notes: &mut [u32],
     most: usize,
-) -> Registers
+) -> Ridden
     requires { Good w.old r × (0 < r.depth) × (0 < most) × (r.steps + most ≤ 1000000) × Short pre.now body.now × Noting pre.now body.now early.old notes.old × Legible (both pre.now body.now) (abs w.old r) }
     ensures { Led (both pre.now body.now) most w.old r w.new result × Noting pre.now body.now early.new notes.new }
 {
     if r.skipping {
-        return pass(w, r, pre, body, most);
+        return Ridden::On(pass(w, r, pre, body, most));
     }
     rides::ride(w, r, pre, body, early, notes, most)
 }
@@ -90,11 +85,10 @@ fn onward<'a>(
     requires { Good w.old r × (0 < r.depth) × (0 < most) × (r.steps + most ≤ 1000000) × Short pre.now body.now × Noting pre.now body.now early.old notes.old × Legible (both pre.now body.now) (abs w.old r) }
     ensures { Onward (both pre.now body.now) most w.old r w.new result × Noting pre.now body.now early.new notes.new }
 {
-    let q = lead(w, r, pre, body, early, notes, most);
-    if q.ok {
-        return paces::pace(w, q, pre, body, early, notes);
+    match lead(w, r, pre, body, early, notes, most) {
+        Ridden::Due(q) => paces::pace(w, q, pre, body, early, notes),
+        Ridden::On(q) => q,
     }
-    q
 }
 
 // At most `allowance` steps, by the notes and leaving more.

@@ -20,6 +20,7 @@ ghost use Rattle.state.specs.Layout.{contexts_of, abs, Good, Busy, Tried};
 ghost use Rattle.spans.specs.Memo.{BodyEnds};
 ghost use Rattle.origins.specs.Bodies.{Short, Noting};
 ghost use Rattle.sprints.specs.Swift.{origin, ending};
+ghost use Rattle.rides.specs.declared.Ridden.TheVariants.{On};
 ghost use Rattle.rides.specs.Rides.{ridden, Paced, Alighted, Led, PastHeld};
 
 use machine::Value;

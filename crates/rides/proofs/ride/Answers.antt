@@ -15,7 +15,7 @@ use Rattle.rides.proofs.ride.Goals as goal
 
 pub row-t-requires : goal.row-t-requires
 row-t-requires c =
-    rw c.counted.ensures ((rw c.bytes_of-b.ensures (bytes_short _ _ c.seat_of-s.result.origin c.requires.5)), busy_held _ c.requires.0 c.requires.1 c.requires.4, c.requires.2, refl, c.seat_of-s.ensures.2, low_held _ c.args.r, left_there (both c.args.pre.now c.args.body.now) _ c.args.r _ _ _ c.requires.7 c.requires.1 (c.bytes_of-b.ensures ∙ ap (bytes_of (both c.args.pre.now c.args.body.now)) c.seat_of-s.ensures.0) c.seat_of-s.ensures.1 c.seat_of-s.ensures.2)
+    rw c.counted.ensures ((rw c.bytes_of-b.ensures (bytes_short _ _ c.seat_of-s.result.origin c.requires.5)), busy_held _ c.requires.0 c.requires.1 c.requires.4, c.requires.2, c.seat_of-s.ensures.2, low_held _ c.args.r, left_there (both c.args.pre.now c.args.body.now) _ c.args.r _ _ _ c.requires.7 c.requires.1 (c.bytes_of-b.ensures ∙ ap (bytes_of (both c.args.pre.now c.args.body.now)) c.seat_of-s.ensures.0) c.seat_of-s.ensures.1 c.seat_of-s.ensures.2)
 
 pub overflow_add-q : goal.overflow_add-q
 overflow_add-q c = omega (arith, c.requires.4, c.row-t.ensures.0)
