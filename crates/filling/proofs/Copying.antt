@@ -46,8 +46,8 @@ module _ (l : List ℕ) (at k : ℕ) (ys : List ℕ) (n : length ys ≡ k) (h : 
   put_in : sets l at ys ≡ put_mid at k l ys
   put_in = sym (stored l at k ys ys refl n h)
 
-  there : between at (at + k) (sets l at ys) ≡ ys
-  there = rw put_in (between-put_mid at k l ys (at + k) (omega arith) (omega arith))
+  between_is : between at (at + k) (sets l at ys) ≡ ys
+  between_is = rw put_in (between-put_mid at k l ys (at + k) (omega arith) (omega arith))
 
   over : (zs : List ℕ) → length zs ≡ k → put_mid at k (sets l at ys) zs ≡ sets l at zs
   over zs m =
@@ -63,7 +63,7 @@ module _ (l : List ℕ) (at k : ℕ) (ys : List ℕ) (n : length ys ≡ k) (h : 
   pub lowered_over : (out new : List ℕ) → out ≡ sets l at ys → new ≡ map to_ascii_lowercase (between at (at + k) out) → put_mid at k out new ≡ sets l at (shown true ys)
   unfolding shown
   lowered_over out new e f =
-      let g : new ≡ lowered ys = f ∙ ap (λ (t : List ℕ). map to_ascii_lowercase (between at (at + k) t)) e ∙ ap (map to_ascii_lowercase) there ∙ lowers ys in
+      let g : new ≡ lowered ys = f ∙ ap (λ (t : List ℕ). map to_ascii_lowercase (between at (at + k) t)) e ∙ ap (map to_ascii_lowercase) between_is ∙ lowers ys in
       ap₂ (put_mid at k) e g ∙ over (lowered ys) (shown_length true ys ∙ n)
 
 shown_none : (lower : Bool) → shown lower [] ≡ []

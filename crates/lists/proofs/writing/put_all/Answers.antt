@@ -57,8 +57,8 @@ returns-2 c =
     let o = c.loop-at in
     let j = judged (goal.at.returns-2 c).After-unwrap-item in
     let put =
-        putting_on a.list.now a.text.now c.copy.new.out o.out o.at o.o o.invariant (omega arith) (length a.out.now) c.requires c.unwrap-item.result j _ _
-        c.put_item-o.ensures (omega (arith, c.put_item-o.auto)) in
+    putting_on a.list.now a.text.now c.copy.new.out o.out o.at o.o o.invariant (omega arith) (length a.out.now) c.requires c.unwrap-item.result j _ _
+    c.put_item-o.ensures (omega (arith, c.put_item-o.auto)) in
     putting_end a.list.now a.text.now c.copy.new.out c.put_item-o.new.out (o.at + 16) c.put_item-o.result put (omega arith) a.out.now c.copy.ensures
 
 pub returns : goal.returns
