@@ -9,6 +9,7 @@ ghost use Rattle.tokens.specs.Inner.{rule_of, room_of, added, Fitting, FittingSu
 use crate::text::all_obey;
 use crate::values::value_after;
 use tokens::bits::low5;
+use tokens::kinds::{IDENTIFIER, INTEGER, RATIONAL, STRING};
 use tokens::{Gathered, Piece, Refusal, Refused, Rule, Summary};
 
 fn length_bytes(b: u8) -> usize
@@ -64,28 +65,25 @@ pub fn next_piece(s: &[u8], at: usize) -> Option<Piece>
     None
 }
 
+#[tactic(auto, unfolding(tokens::specs::Inner::rule_of))]
 fn rule_of(k: u8) -> Rule
     ensures { result ≡ rule_of k }
 {
-    if k == 1 {
-        return Rule::Plain;
+    match k {
+        STRING => Rule::Plain,
+        IDENTIFIER => Rule::Named,
+        _ => Rule::Anything,
     }
-    if k == 5 {
-        return Rule::Named;
-    }
-    Rule::Anything
 }
 
+#[tactic(auto, unfolding(tokens::specs::Inner::room_of))]
 fn room_of(k: u8) -> usize
     ensures { (result ≡ room_of k) × (result ≤ 8) }
 {
-    if k == 2 {
-        return 8;
+    match k {
+        INTEGER | RATIONAL => 8,
+        _ => 0,
     }
-    if k == 4 {
-        return 8;
-    }
-    0
 }
 
 // The value with the first bytes of a piece set after it, as far as `room` bytes in all.

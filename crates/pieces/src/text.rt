@@ -1,7 +1,8 @@
 // The bytes of strings and identifiers.
 ghost use Rattle.std.specs.Prelude.{◌≡◌};
-ghost use Rattle.tokens.specs.Text.{is_letter, is_mark, obeys, every, lower_of};
+ghost use Rattle.tokens.specs.Text.{is_letter, is_mark, obeys, every, is_name, lower_of};
 
+use crate::values::name_size;
 use tokens::Rule;
 
 pub fn is_letter(b: u8) -> bool
@@ -39,6 +40,13 @@ pub fn all_obey(rule: Rule, part: &[u8]) -> bool
         }
     }
     good
+}
+
+// An identifier whose bytes obey the rule: the first is a letter.
+pub fn is_name(rule: Rule, part: &[u8]) -> bool
+    ensures { result ≡ is_name rule part.now }
+{
+    name_size(part.len()) && is_letter(part[0]) && all_obey(rule, part)
 }
 
 // Upper case reads as lower.
