@@ -80,7 +80,7 @@ fn put_text(out: &mut [u8], o: usize, kind: u8, x: &[u8], start: usize, len: usi
     ensures { Put out.old out.new o (sequence_bytes kind (slice start (start + len) x.now)) result }
 {
     let p = put_sequence_head(out, o, kind, len);
-    table::words::copy(out, p, x, start, len);
+    table::words::copy(out, p, &x[start..start + len]);
     p + len
 }
 
@@ -254,7 +254,7 @@ fn put_all(list: &[u8], text: &[u8], out: &mut [u8])
     requires { Fits (listed list.now text.now) (length out.old) }
     ensures { out.new ≡ sets out.old 0 (written_of (tokens_in (listed list.now text.now))) }
 {
-    table::words::copy(out, 0, b"Interpress/Xerox/3.0 ", 0, 21);
+    table::words::copy(out, 0, b"Interpress/Xerox/3.0 ");
     let mut o: usize = 21;
     for at in (0..list.len()).step_by(16) {
         let item = item_at(list, text, at).unwrap();

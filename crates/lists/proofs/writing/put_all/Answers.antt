@@ -12,8 +12,7 @@ judged : (c : After-unwrap-item) → Judged c.args.text.now (entry_at c.args.lis
 judged c = rw c.unwrap-item.ensures at c.item_at.ensures
 
 pub copy-requires : goal.copy-requires
-copy-requires c =
-    (fits_start (listed c.args.list.now c.args.text.now) (length c.args.out.now) c.requires, omega arith)
+copy-requires c = fits_start (listed c.args.list.now c.args.text.now) (length c.args.out.now) c.requires
 
 pub loop-at-init : goal.loop-at-init
 loop-at-init c = putting_start c.args.list.now c.args.text.now _
@@ -57,8 +56,8 @@ returns-2 c =
     let o = c.loop-at in
     let j = judged (goal.at.returns-2 c).After-unwrap-item in
     let put =
-        putting_on a.list.now a.text.now c.copy.new.out o.out o.at o.o o.invariant (omega arith) (length a.out.now) c.requires c.unwrap-item.result j _ _
-        c.put_item-o.ensures (omega (arith, c.put_item-o.auto)) in
+    putting_on a.list.now a.text.now c.copy.new.out o.out o.at o.o o.invariant (omega arith) (length a.out.now) c.requires c.unwrap-item.result j _ _
+    c.put_item-o.ensures (omega (arith, c.put_item-o.auto)) in
     putting_end a.list.now a.text.now c.copy.new.out c.put_item-o.new.out (o.at + 16) c.put_item-o.result put (omega arith) a.out.now c.copy.ensures
 
 pub returns : goal.returns
