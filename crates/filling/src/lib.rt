@@ -3,7 +3,6 @@
 
 ghost use Rattle.std.specs.Prelude.{◌≡◌, ◌+◌, ◌^◌, ◌<◌, ◌≤◌, length};
 ghost use Rattle.std.proofs.lemmas.List.Edits.{sets};
-ghost use Rattle.std.proofs.Math.Seq.{slice};
 ghost use Rattle.std.specs.Int.{w32};
 ghost use Rattle.std.proofs.Common.{of_z};
 ghost use Rattle.tokens.specs.Format.{longest};
@@ -78,14 +77,14 @@ fn put_number(list: &mut [u8], p: usize, value: numbers::Number)
     put_words(list, p, 1, numbers::words::to_word(value.num), value.den);
 }
 
-// Copies `len` bytes of s from `from` on to `o`, in lower case where asked.
-fn put_part(lower: bool, text: &mut [u8], o: usize, s: &[u8], from: usize, len: usize)
-    requires { (o + len ≤ length text.old) × (from + len ≤ length s.now) }
-    ensures { text.new ≡ sets text.old o (shown lower (slice from (from + len) s.now)) }
+// Copies the part to `o` on, in lower case where asked.
+fn put_part(lower: bool, text: &mut [u8], o: usize, part: &[u8])
+    requires { o + length part.now ≤ length text.old }
+    ensures { text.new ≡ sets text.old o (shown lower part.now) }
 {
-    table::words::copy(text, o, s, from, len);
+    table::words::copy(text, o, part);
     if lower {
-        text[o..o + len].make_ascii_lowercase();
+        text[o..o + part.len()].make_ascii_lowercase();
     }
 }
 
@@ -100,8 +99,8 @@ fn copy_from(lower: bool, s: &[u8], start: usize, text: &mut [u8], o: usize)
         let Some(piece) = next_piece(s, at) else {
             return;
         };
-        put_part(lower, text, q, s, piece.start, piece.len);
         at = piece.start + piece.len;
+        put_part(lower, text, q, &s[piece.start..at]);
         q += piece.len;
     }
 }
@@ -112,8 +111,9 @@ fn copy_text(lower: bool, s: &[u8], at: usize, text: &mut [u8], o: usize)
     ensures { text.new ≡ sets text.old o (shown lower (data_of (joined_at s.now at))) }
 {
     let piece = piece_at(s, at).unwrap();
-    put_part(lower, text, o, s, piece.start, piece.len);
-    copy_from(lower, s, piece.start + piece.len, text, o + piece.len);
+    let next = piece.start + piece.len;
+    put_part(lower, text, o, &s[piece.start..next]);
+    copy_from(lower, s, next, text, o + piece.len);
 }
 
 // Puts the words and the text of the identifier or string token at the place.

@@ -1,31 +1,26 @@
 -- The tests of a token in a table, each by itself: the definition is their conjunction, so that their order is free. In order: a
 -- conjunction; an entry; numbers; texts; operators; the entry by its kind and at its place. Assumes nothing.
 use Rattle.std.specs.Prelude.{Option, Some, None}
-use mathlib.Core.Path.{◌≡◌, refl, sym, ap, ◌∙◌}
+use mathlib.Core.Path.{◌≡◌, refl, sym, ◌∙◌}
 use mathlib.Core.Bool.{Bool, true, false, ◌&&◌}
 use mathlib.Core.List.{List}
 use Prim.Native.Nat.{ℕ, ◌+◌, ◌<◌, ◌≤◌}
 use native.Mathlib.Omega.{arith}
 use lib.Dec.{ltb, leb, eqb}
-use lib.ListN.{length, get_or}
-use lib.Seq.{slice, slice-cons, length-slice}
+use lib.ListN.{length}
+use lib.Seq.{slice}
 use lib.IntN.{nat_abs}
 use mir.Syntax.{w32}
 use mir.Val.{to_z}
 use borrow.Author.Tests.{lt-ltb, le-ltb, le-leb, lt-leb, ne_eqb}
 use Rattle.numbers.specs.Fraction.{is_fraction}
 use Rattle.numbers.proofs.Cond.{no_left, no_right}
-use Rattle.tokens.specs.declared.Rule.{Rule}
-use Rattle.tokens.specs.Text.{is_letter, every, is_name}
 use Rattle.table.specs.Words.{word_at}
 use Rattle.items.specs.declared.Item.{Item}
 use Rattle.items.specs.declared.Item.TheVariants.{Number, Operator}
 use Rattle.items.specs.Tokens.{Token, identifier, string, operator, writable}
 use Rattle.items.specs.Listing.{writes, entry, in_table, entry_of, entry_at}
 use Rattle.items.specs.Judged.{number_in, text_token, entry_is, Judged}
-
-all_true : (a b c d : Bool) → a ≡ true → b ≡ true → c ≡ true → a && (b && (c && d)) ≡ d
-all_true a b c d e f g = rw (e, f, g)
 
 module _ (x : List ℕ) (q : Bool) (t : Token) where
   judged_no : q && writable t ≡ false → Judged x (entry q t) None
@@ -73,40 +68,7 @@ module _ (x : List ℕ) (a b c : ℕ) where
   unfolding in_table
   place_good e g h k = rw (e, lt-ltb a 2147483648 (omega arith), lt-ltb b 2147483648 (omega arith), le-leb (a + b) (length x) k)
 
--- an identifier's tests, where its text is n bytes from s on
-module _ (r : Rule) (x : List ℕ) (s n : ℕ) (h : s + n ≤ length x) where
-  D : List ℕ
-  D = slice s (s + n) x
-
-  D-length : length D ≡ n
-  unfolding D
-  D-length = length-slice s (s + n) x h ∙ (omega arith)
-
-  pub name_none : n < 1 → is_name r (slice s (s + n) x) ≡ false
-  unfolding is_name D
-  name_none g = no_left (leb 1 (length D)) _ (rw D-length (lt-leb 1 n g))
-
-  pub name_long : 100 < n → is_name r (slice s (s + n) x) ≡ false
-  unfolding is_name D
-  name_long g = no_right (leb 1 (length D)) _ (no_left (leb (length D) 100) _ (rw D-length (lt-leb n 100 g)))
-
-  D-first : 1 ≤ n → get_or D 0 0 ≡ get_or x s 0
-  unfolding D
-  D-first g = rw (slice-cons s (s + n) x 0 (omega arith) h)
-
-  pub name_first : (t : Bool) → 1 ≤ n → t ≡ is_letter (get_or x s 0) → t ≡ false → is_name r (slice s (s + n) x) ≡ false
-  unfolding is_name D
-  name_first t g e f =
-      no_right (leb 1 (length D)) _ (no_right (leb (length D) 100) _ (no_left (is_letter (get_or D 0 0)) (every r D) (ap is_letter (D-first g) ∙ sym e ∙ f)))
-
-  pub name_rest : (t u : Bool) → 1 ≤ n → n ≤ 100 → t ≡ is_letter (get_or x s 0) → t ≡ true → u ≡ every r (slice s (s + n) x) → u ≡ is_name r (slice s (s + n) x)
-  unfolding is_name D
-  name_rest t u g k e f v =
-      let a : leb 1 (length D) ≡ true = rw D-length (le-leb 1 n g) in
-      let b : leb (length D) 100 ≡ true = rw D-length (le-leb n 100 k) in
-      let d : is_letter (get_or D 0 0) ≡ true = ap is_letter (D-first g) ∙ sym e ∙ f in
-      v ∙ sym (all_true (leb 1 (length D)) (leb (length D) 100) (is_letter (get_or D 0 0)) (every r D) a b d)
-
+-- a text by its kind
 pub text_named : (named : Bool) (d : List ℕ) → named ≡ true → text_token named d ≡ identifier d
 unfolding text_token
 text_named named d e = rw e

@@ -5,8 +5,6 @@ ghost use Rattle.std.specs.Prelude.{◌≡◌, ◌&&◌, List, ℕ, ◌+◌, ◌
 ghost use Rattle.std.proofs.Math.Seq.{slice};
 ghost use Rattle.std.specs.Int.{w32};
 ghost use Rattle.std.proofs.Common.{to_z};
-ghost use Rattle.tokens.specs.declared.Rule.TheVariants.{Lowered};
-ghost use Rattle.tokens.specs.Text.{is_name};
 ghost use Rattle.items.specs.Tokens.{operator, writable};
 ghost use Rattle.items.specs.Listing.{writes, entry, in_table, entry_of, entry_at};
 ghost use Rattle.items.specs.Judged.{number_in, text_token, GoodText, Judged};
@@ -37,26 +35,14 @@ fn number_item(a: u32, b: u32, c: u32) -> Option<Item>
     None
 }
 
-// 1 to 100 bytes, the first a letter, no upper case.
-fn is_name(x: &[u8], start: usize, len: usize) -> bool
-    requires { start + len ≤ length x.now }
-    ensures { result ≡ is_name Lowered (slice start (start + len) x.now) }
-{
-    if len < 1 || 100 < len || !pieces::text::is_letter(x[start]) {
-        return false;
-    }
-    pieces::text::all_obey(tokens::Rule::Lowered, x, start, len)
-}
-
-// The text can be written: as an identifier where `named`, else as a string.
-fn is_text(named: bool, x: &[u8], start: usize, len: usize) -> bool
-    requires { start + len ≤ length x.now }
-    ensures { result ≡ writable (text_token named (slice start (start + len) x.now)) }
+// The text can be written: as an identifier with no upper case where `named`, else as a string.
+fn is_text(named: bool, part: &[u8]) -> bool
+    ensures { result ≡ writable (text_token named part.now) }
 {
     if named {
-        is_name(x, start, len)
+        pieces::text::is_name(tokens::Rule::Lowered, part)
     } else {
-        pieces::text::all_obey(tokens::Rule::Plain, x, start, len)
+        pieces::text::all_obey(tokens::Rule::Plain, part)
     }
 }
 
@@ -78,7 +64,7 @@ fn text_item(named: bool, x: &[u8], a: u32, b: u32, c: u32) -> Option<Item>
     }
     let start = a as usize;
     let len = b as usize;
-    if start + len <= x.len() && is_text(named, x, start, len) {
+    if start + len <= x.len() && is_text(named, &x[start..start + len]) {
         return Some(text_at(named, start, len));
     }
     None

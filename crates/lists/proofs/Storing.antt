@@ -1,5 +1,5 @@
 -- Bytes put one after another, and the bytes of a sequence. Assumes nothing.
-use Rattle.std.proofs.Common.{◌≡◌, ℕ, zero, suc, ◌+◌, ◌-◌, ◌/◌, ◌%◌, ◌<◌, ◌≤◌, Bool, true, false, cond, leb, List, [], ◌∷◌, ◌++◌, length, set, sym, refl, ap, ◌∙◌, arith, length-append, le-leb}
+use Rattle.std.proofs.Common.{◌≡◌, ℕ, zero, suc, ◌+◌, ◌-◌, ◌/◌, ◌%◌, ◌<◌, ◌≤◌, Bool, true, false, cond, leb, List, [], ◌∷◌, ◌++◌, length, set, refl, ap, ◌∙◌, arith, length-append, le-leb}
 use lib.Seq.{slice, length-slice, sets}
 use borrow.Author.Tests.{lt-leb}
 use Rattle.table.proofs.Stores.{sets_append, sets_snoc}
@@ -52,18 +52,15 @@ sequence_is k d = go (leb (length d) 255)
     go false = refl
 
 -- a text, from its head on
-module _ (x : List ℕ) (s n k : ℕ) (h : s + n ≤ length x) where
-  text_length : length (slice s (s + n) x) ≡ n
-  text_length = length-slice s (s + n) x h ∙ (omega arith)
+module _ (d : List ℕ) (k : ℕ) where
+  pub text_then : (l l₁ : List ℕ) (o p : ℕ) → Room l o (sequence_bytes k d) → Put l l₁ o (head_bytes k (length d)) p → length l₁ ≡ length l → p + length d ≤ length l₁
+  text_then l l₁ o p r m e = room_then _ (head_bytes k (length d)) d (sequence_is k d) l o r l₁ p m e
 
-  pub text_is : sequence_bytes k (slice s (s + n) x) ≡ head_bytes k n ++ slice s (s + n) x
-  text_is = sequence_is k (slice s (s + n) x) ∙ rw text_length
+  pub text_put : (l l₁ l₂ : List ℕ) (o p : ℕ) → Put l l₁ o (head_bytes k (length d)) p → l₂ ≡ sets l₁ p d → Put l l₂ o (sequence_bytes k d) (p + length d)
+  text_put l l₁ l₂ o p m e = put_then _ (head_bytes k (length d)) d (sequence_is k d) l l₁ l₂ o p (p + length d) m (record { next = refl; stored = e })
 
-  pub text_size : length (sequence_bytes k (slice s (s + n) x)) ≡ length (head_bytes k n) + n
-  text_size = ap length text_is ∙ length-append (head_bytes k n) (slice s (s + n) x) ∙ rw text_length
-
-  pub text_then : (l l₁ : List ℕ) (o p : ℕ) → Room l o (sequence_bytes k (slice s (s + n) x)) → Put l l₁ o (head_bytes k n) p → length l₁ ≡ length l → p + n ≤ length l₁
-  text_then l l₁ o p r m e = rw text_length at (room_then _ (head_bytes k n) (slice s (s + n) x) text_is l o r l₁ p m e)
-
-  pub text_put : (l l₁ l₂ : List ℕ) (o p : ℕ) → Put l l₁ o (head_bytes k n) p → l₂ ≡ sets l₁ p (slice s (s + n) x) → Put l l₂ o (sequence_bytes k (slice s (s + n) x)) (p + n)
-  text_put l l₁ l₂ o p m e = put_then _ (head_bytes k n) (slice s (s + n) x) text_is l l₁ l₂ o p (p + n) m (record { next = ap (λ (i : ℕ). p + i) (sym text_length); stored = e })
+-- the same of a text of n bytes in a table
+pub text_size : (x : List ℕ) (s n k : ℕ) → s + n ≤ length x → length (sequence_bytes k (slice s (s + n) x)) ≡ length (head_bytes k n) + n
+text_size x s n k h =
+    let e : length (slice s (s + n) x) ≡ n = length-slice s (s + n) x h ∙ omega arith in
+    ap length (sequence_is k (slice s (s + n) x)) ∙ length-append (head_bytes k (length (slice s (s + n) x))) (slice s (s + n) x) ∙ rw e

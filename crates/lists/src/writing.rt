@@ -1,7 +1,6 @@
 // Writing: the whole list is judged and measured, then put. Each function that puts bytes answers the place after them. In order:
 // bytes; sequences, operators, texts; numbers; a judged token; its length; the two passes; the call.
 ghost use Rattle.std.specs.Prelude.{◌≡◌, ℕ, ◌+◌, ◌%◌, ◌<◌, ◌≤◌, List, [], ◌∷◌, ◌++◌, length, pos};
-ghost use Rattle.std.proofs.Math.Seq.{slice};
 ghost use Rattle.std.proofs.lemmas.List.Edits.{sets};
 ghost use Rattle.std.specs.Int.Signed.{mag};
 ghost use Rattle.std.specs.Int.{w32};
@@ -13,6 +12,7 @@ ghost use Rattle.items.specs.Judged.{number_in, entry_is, GoodItem};
 ghost use Rattle.lists.specs.Inner.{Small, Room, Put, head_bytes, integer_sequence, entry_bytes, capped, measured_of, Fits, tokens_in};
 
 use items::{Item, item_at};
+use tokens::kinds::{IDENTIFIER, INTEGER, RATIONAL, STRING};
 use tokens::{Outcome, Refusal, Refused};
 
 // The most bytes of a sequence whose length is one byte.
@@ -74,14 +74,14 @@ fn put_operator(out: &mut [u8], o: usize, n: u16) -> usize
     )
 }
 
-// An identifier (type 5) or a string (type 1), from the text table.
-fn put_text(out: &mut [u8], o: usize, kind: u8, x: &[u8], start: usize, len: usize) -> usize
-    requires { (Room out.old o (sequence_bytes kind (slice start (start + len) x.now))) × (kind < 32) × (start + len ≤ length x.now) }
-    ensures { Put out.old out.new o (sequence_bytes kind (slice start (start + len) x.now)) result }
+// The part as an identifier or a string.
+fn put_text(out: &mut [u8], o: usize, kind: u8, part: &[u8]) -> usize
+    requires { (Room out.old o (sequence_bytes kind part.now)) × (kind < 32) }
+    ensures { Put out.old out.new o (sequence_bytes kind part.now) result }
 {
-    let p = put_sequence_head(out, o, kind, len);
-    table::words::copy(out, p, x, start, len);
-    p + len
+    let p = put_sequence_head(out, o, kind, part.len());
+    table::words::copy(out, p, part);
+    p + part.len()
 }
 
 // The bits of a short number, from its word.
@@ -131,7 +131,7 @@ fn put_integer(out: &mut [u8], o: usize, a: u32) -> usize
     ensures { Put out.old out.new o (integer_sequence (to_z w32 a)) result }
 {
     let k = bytes_for_word(a);
-    let p = put_sequence_head(out, o, 2, k);
+    let p = put_sequence_head(out, o, INTEGER, k);
     put_bytes(out, p, k, a as u64)
 }
 
@@ -160,7 +160,7 @@ fn put_rational(out: &mut [u8], o: usize, num: u32, den: u32) -> usize
     ensures { Put out.old out.new o (rational_bytes (to_z w32 num) den) result }
 {
     let k = half_of(num, den);
-    let p = put_sequence_head(out, o, 4, k + k);
+    let p = put_sequence_head(out, o, RATIONAL, k + k);
     put_halves(out, p, k, num, den)
 }
 
@@ -181,8 +181,8 @@ fn put_item(out: &mut [u8], o: usize, x: &[u8], item: Item) -> usize
 {
     match item {
         Item::Number { num, den } => put_number(out, o, num, den),
-        Item::Identifier { start, len } => put_text(out, o, 5, x, start, len),
-        Item::String { start, len } => put_text(out, o, 1, x, start, len),
+        Item::Identifier { start, len } => put_text(out, o, IDENTIFIER, &x[start..start + len]),
+        Item::String { start, len } => put_text(out, o, STRING, &x[start..start + len]),
         Item::Operator { number } => put_operator(out, o, number),
     }
 }
@@ -254,7 +254,7 @@ fn put_all(list: &[u8], text: &[u8], out: &mut [u8])
     requires { Fits (listed list.now text.now) (length out.old) }
     ensures { out.new ≡ sets out.old 0 (written_of (tokens_in (listed list.now text.now))) }
 {
-    table::words::copy(out, 0, b"Interpress/Xerox/3.0 ", 0, 21);
+    table::words::copy(out, 0, b"Interpress/Xerox/3.0 ");
     let mut o: usize = 21;
     for at in (0..list.len()).step_by(16) {
         let item = item_at(list, text, at).unwrap();

@@ -9,6 +9,7 @@ ghost use Rattle.literals.specs.Dues.{LiteralThere, Is, Passes, PastOperator, Te
 use crate::{Ahead, Bare, Due};
 use machine::{Literal, Role};
 use spans::WORDS;
+use tokens::kinds::{IDENTIFIER, STRING};
 use tokens::{Form, Read};
 
 fn found(b: &[u8], literal: Literal, next: usize) -> Due
@@ -86,33 +87,29 @@ fn read_sequence(b: &[u8], at: usize) -> Due
     }
 }
 
-// The types of a string and of an identifier.
-pub const TEXT: u8 = 1;
-
-pub const NAME: u8 = 5;
-
 // A number, a name or a string at `at`. Only numbers are read: of the others it is enough where they end.
 fn due_sequence(b: &[u8], at: usize) -> Due
     requires { (length b.now ≤ 16777215) × ((at < length b.now) × (192 ≤ get_or b.now at 0)) × LiteralThere b.now at }
     ensures { Is (found_at b.now at) result }
 {
-    let kind = tokens::bits::low5(b[at]);
-    if kind == TEXT {
-        let x = passing::known::extent(b, at);
-        let text = Literal::Text {
-            start: table::words::word(at),
-        };
-        return found(b, text, x.next);
+    match tokens::bits::low5(b[at]) {
+        STRING => {
+            let x = passing::known::extent(b, at);
+            let text = Literal::Text {
+                start: table::words::word(at),
+            };
+            found(b, text, x.next)
+        }
+        IDENTIFIER => {
+            let x = passing::known::extent(b, at);
+            let name = Literal::Name {
+                start: table::words::word(at),
+                len: table::words::word(x.len),
+            };
+            found(b, name, x.next)
+        }
+        _ => read_sequence(b, at),
     }
-    if kind == NAME {
-        let x = passing::known::extent(b, at);
-        let name = Literal::Name {
-            start: table::words::word(at),
-            len: table::words::word(x.len),
-        };
-        return found(b, name, x.next);
-    }
-    read_sequence(b, at)
 }
 
 // The literal at `at`. `memo` has notes on where bodies of b end, and is left with more.

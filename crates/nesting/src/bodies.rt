@@ -8,6 +8,7 @@ use crate::roles;
 use machine::Role;
 use passing::pass_sequence;
 use tokens::forms::form_at;
+use tokens::kinds::COMMENT;
 use tokens::{Form, Read, Refusal, Refused};
 
 // The most bodies that may be open at once.
@@ -20,7 +21,7 @@ pub fn is_solid(s: &[u8], at: usize) -> bool
     if s.len() <= at {
         return true;
     }
-    tokens::bits::low5(s[at]) != 6
+    tokens::bits::low5(s[at]) != COMMENT
 }
 
 // Past comments, each read as a token: the reading point is handed on from one to the next.

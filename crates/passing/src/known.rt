@@ -51,7 +51,7 @@ pub fn extent(s: &[u8], at: usize) -> Extent
             next,
         };
     }
-    match gather(31, s, piece.start, piece.len) {
+    match gather(31, s, piece) {
         Ok(whole) => Extent {
             len: whole.sum.len,
             next: whole.next,

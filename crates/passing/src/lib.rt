@@ -2,18 +2,17 @@
 // read. In order: what is known without that; each type's data; the token.
 #![tactic(auto)]
 
-ghost use Rattle.std.specs.Prelude.{◌≡◌, true, ℕ, ◌+◌, ◌/◌, ◌<◌, ◌≤◌, length, get_or, pos};
-ghost use Rattle.std.proofs.Math.Seq.{slice};
+ghost use Rattle.std.specs.Prelude.{◌≡◌, true, ℕ, ◌/◌, ◌<◌, ◌≤◌, length, get_or, pos};
 ghost use Rattle.numbers.specs.Fraction.{ratio_of};
 ghost use Rattle.tokens.specs.Token.{integer_size, rational_size, integer_in, rational_in, judged, token_at};
 ghost use Rattle.tokens.specs.Passing.{pass_of, Answered};
 
 use pieces::sequences::{is_continued_at, piece_at};
-use pieces::text::all_obey;
+use pieces::text::{all_obey, is_name};
 use pieces::values::{integer_size, rational_size, value_after};
 use reader::reading::read_token;
-use reader::single::is_name;
 use tokens::bits::low5;
+use tokens::kinds::{COMMENT, IDENTIFIER, INTEGER, RATIONAL, STRING};
 use tokens::{Refused, Rule};
 
 pub mod known; // tokens that have been judged
@@ -28,29 +27,27 @@ pub struct Extent {
 // Of the integers of up to 4 bytes this value alone, -2147483648, is outside the limits of a number.
 const LEAST: u64 = 2147483648;
 
-fn is_integer(s: &[u8], start: usize, len: usize) -> bool
-    requires { start + len ≤ length s.now }
-    ensures { result ≡ true → (integer_size len ≡ true) × Answered (ratio_of (integer_in len (slice start (start + len) s.now)) (pos 1)) }
+fn is_integer(part: &[u8]) -> bool
+    ensures { result ≡ true → (integer_size (length part.now) ≡ true) × Answered (ratio_of (integer_in (length part.now) part.now) (pos 1)) }
 {
-    if !integer_size(len) {
+    if !integer_size(part.len()) {
         return false;
     }
-    value_after(0, 0, s, start, len) != LEAST
+    value_after(0, 0, part) != LEAST
 }
 
 // A rational that is inside the limits before it is reduced.
-fn is_rational(s: &[u8], start: usize, len: usize) -> bool
-    requires { start + len ≤ length s.now }
-    ensures { result ≡ true → (rational_size len ≡ true) × Answered (rational_in (len / 2) (slice start (start + len) s.now)) }
+fn is_rational(part: &[u8]) -> bool
+    ensures { result ≡ true → (rational_size (length part.now) ≡ true) × Answered (rational_in (length part.now / 2) part.now) }
 {
-    if !rational_size(len) {
+    if !rational_size(part.len()) {
         return false;
     }
-    let h = len / 2;
-    if value_after(0, 0, s, start, h) == LEAST {
+    let h = part.len() / 2;
+    if value_after(0, 0, &part[..h]) == LEAST {
         return false;
     }
-    let d = value_after(0, 0, s, start + h, h);
+    let d = value_after(0, 0, &part[h..]);
     if d == LEAST {
         return false;
     }
@@ -58,23 +55,16 @@ fn is_rational(s: &[u8], start: usize, len: usize) -> bool
 }
 
 // The data of a sequence of type `k` obey its rule: seen at once, so that `false` says nothing.
-fn is_sound(k: u8, s: &[u8], start: usize, len: usize) -> bool
-    requires { start + len ≤ length s.now }
-    ensures { result ≡ true → (at next : ℕ) → pass_of (judged k at (slice start (start + len) s.now) next) ≡ Ok next }
+fn is_sound(k: u8, part: &[u8]) -> bool
+    ensures { result ≡ true → (at next : ℕ) → pass_of (judged k at part.now next) ≡ Ok next }
 {
-    if k == 1 {
-        return all_obey(Rule::Plain, s, start, len);
+    match k {
+        STRING => all_obey(Rule::Plain, part),
+        INTEGER => is_integer(part),
+        RATIONAL => is_rational(part),
+        IDENTIFIER => is_name(Rule::Named, part),
+        _ => k == COMMENT,
     }
-    if k == 2 {
-        return is_integer(s, start, len);
-    }
-    if k == 4 {
-        return is_rational(s, start, len);
-    }
-    if k == 5 {
-        return is_name(s, start, len);
-    }
-    k == 6
 }
 
 // Past the sequence token at `at`.
@@ -85,7 +75,7 @@ pub fn pass_sequence(s: &[u8], at: usize) -> Result<usize, Refused>
     if let Some(piece) = piece_at(s, at) {
         let next = piece.start + piece.len;
         if !is_continued_at(s, next) {
-            if is_sound(low5(s[at]), s, piece.start, piece.len) {
+            if is_sound(low5(s[at]), &s[piece.start..next]) {
                 return Ok(next);
             }
         }

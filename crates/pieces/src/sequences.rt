@@ -9,6 +9,7 @@ ghost use Rattle.tokens.specs.Inner.{rule_of, room_of, added, Fitting, FittingSu
 use crate::text::all_obey;
 use crate::values::value_after;
 use tokens::bits::low5;
+use tokens::kinds::{IDENTIFIER, INTEGER, RATIONAL, STRING};
 use tokens::{Gathered, Piece, Refusal, Refused, Rule, Summary};
 
 fn length_bytes(b: u8) -> usize
@@ -27,7 +28,7 @@ pub fn piece_at(s: &[u8], at: usize) -> Option<Piece>
     if s.len() < start {
         return None;
     }
-    let n = value_after(0, 0, s, at + 1, k) as usize;
+    let n = value_after(0, 0, &s[at + 1..start]) as usize;
     if s.len() - start < n {
         return None;
     }
@@ -64,95 +65,90 @@ pub fn next_piece(s: &[u8], at: usize) -> Option<Piece>
     None
 }
 
+#[tactic(auto, unfolding(tokens::specs::Inner::rule_of))]
 fn rule_of(k: u8) -> Rule
     ensures { result ≡ rule_of k }
 {
-    if k == 1 {
-        return Rule::Plain;
+    match k {
+        STRING => Rule::Plain,
+        IDENTIFIER => Rule::Named,
+        _ => Rule::Anything,
     }
-    if k == 5 {
-        return Rule::Named;
-    }
-    Rule::Anything
 }
 
+#[tactic(auto, unfolding(tokens::specs::Inner::room_of))]
 fn room_of(k: u8) -> usize
     ensures { (result ≡ room_of k) × (result ≤ 8) }
 {
-    if k == 2 {
-        return 8;
+    match k {
+        INTEGER | RATIONAL => 8,
+        _ => 0,
     }
-    if k == 4 {
-        return 8;
-    }
-    0
 }
 
 // The value with the first bytes of a piece set after it, as far as `room` bytes in all.
-fn value_more(g: Summary, room: usize, s: &[u8], start: usize, len: usize) -> u64
-    requires { (room ≤ 8) × Fitting g × (start + len ≤ length s.now) }
-    ensures { (result ≡ value_after g.value (take (room - g.len) (slice start (start + len) s.now))) × (g.len + len ≤ 8 → result < 2 ^ (8 * (g.len + len))) }
+fn value_more(g: Summary, room: usize, part: &[u8]) -> u64
+    requires { (room ≤ 8) × Fitting g }
+    ensures { (result ≡ value_after g.value (take (room - g.len) part.now)) × (g.len + length part.now ≤ 8 → result < 2 ^ (8 * (g.len + length part.now))) }
 {
     let had = g.len;
     let value = g.value;
     if room <= had {
         return value;
     }
-    if len < room - had {
-        return value_after(value, had, s, start, len);
+    if part.len() < room - had {
+        return value_after(value, had, part);
     }
-    value_after(value, had, s, start, room - had)
+    value_after(value, had, &part[..room - had])
 }
 
 // The first byte of the data, if `first` of `had` bytes is not.
-fn first_of(first: u8, had: usize, s: &[u8], start: usize, len: usize) -> u8
-    requires { start + len ≤ length s.now }
-    ensures { result ≡ cond (eqb had 0) (get_or (slice start (start + len) s.now) 0 0) first }
+fn first_of(first: u8, had: usize, part: &[u8]) -> u8
+    ensures { result ≡ cond (eqb had 0) (get_or part.now 0 0) first }
 {
     if had != 0 {
         return first;
     }
-    if len == 0 {
+    if part.is_empty() {
         return 0;
     }
-    s[start]
+    part[0]
 }
 
 // Every byte so far obeyed the rule, and every byte of the piece does.
-fn good_more(good: bool, rule: Rule, s: &[u8], start: usize, len: usize) -> bool
-    requires { start + len ≤ length s.now }
-    ensures { result ≡ good && every rule (slice start (start + len) s.now) }
+fn good_more(good: bool, rule: Rule, part: &[u8]) -> bool
+    ensures { result ≡ good && every rule part.now }
 {
     if let Rule::Anything = rule {
         return good;
     }
     if good {
-        return all_obey(rule, s, start, len);
+        return all_obey(rule, part);
     }
     false
 }
 
 // A piece more of the data of a sequence of type `k`.
-fn take_piece(k: u8, g: Summary, s: &[u8], start: usize, len: usize) -> Summary
-    requires { (g.len + len < 2 ^ 63) × Fitting g × (start + len ≤ length s.now) }
-    ensures { (result ≡ added k g (slice start (start + len) s.now)) × Fitting result }
+fn take_piece(k: u8, g: Summary, part: &[u8]) -> Summary
+    requires { (g.len + length part.now < 2 ^ 63) × Fitting g }
+    ensures { (result ≡ added k g part.now) × Fitting result }
 {
     let had = g.len;
-    let first = first_of(g.first, had, s, start, len);
-    let value = value_more(g, room_of(k), s, start, len);
-    let good = good_more(g.good, rule_of(k), s, start, len);
+    let first = first_of(g.first, had, part);
+    let value = value_more(g, room_of(k), part);
+    let good = good_more(g.good, rule_of(k), part);
     Summary {
-        len: had + len,
+        len: had + part.len(),
         first,
         value,
         good,
     }
 }
 
-// The data of a sequence of type `k` whose own data are `len` bytes from `start` on, with all that continues it.
-pub fn gather(k: u8, s: &[u8], start: usize, len: usize) -> Result<Gathered, Refused>
-    requires { start + len ≤ length s.now }
-    ensures { (result ≡ gathered_of k (joined_from (length s.now) s.now (start + len) (slice start (start + len) s.now))) × FittingSum result }
+// The data of a sequence of type `k` whose own data are the piece `own`, with all that continues it.
+pub fn gather(k: u8, s: &[u8], own: Piece) -> Result<Gathered, Refused>
+    requires { own.start + own.len ≤ length s.now }
+    ensures { (result ≡ gathered_of k (joined_from (length s.now) s.now (own.start + own.len) (slice own.start (own.start + own.len) s.now))) × FittingSum result }
 {
     let mut sum = take_piece(
         k,
@@ -162,11 +158,9 @@ pub fn gather(k: u8, s: &[u8], start: usize, len: usize) -> Result<Gathered, Ref
             value: 0,
             good: true,
         },
-        s,
-        start,
-        len,
+        &s[own.start..own.start + own.len],
     );
-    let mut at = start + len;
+    let mut at = own.start + own.len;
     while at < s.len() {
         if !is_continued(s[at]) {
             return Ok(Gathered { sum, next: at });
@@ -174,7 +168,7 @@ pub fn gather(k: u8, s: &[u8], start: usize, len: usize) -> Result<Gathered, Ref
         let Some(piece) = piece_at(s, at) else {
             return Err(Refusal::CutOff.met_at(at));
         };
-        sum = take_piece(k, sum, s, piece.start, piece.len);
+        sum = take_piece(k, sum, &s[piece.start..piece.start + piece.len]);
         at = piece.start + piece.len;
     }
     Ok(Gathered { sum, next: at })
@@ -193,7 +187,7 @@ pub fn data_size(s: &[u8], at: usize) -> usize
     if !is_continued_at(s, piece.start + piece.len) {
         return piece.len;
     }
-    match gather(31, s, piece.start, piece.len) {
+    match gather(31, s, piece) {
         Ok(whole) => whole.sum.len,
         Err(_) => 0,
     }

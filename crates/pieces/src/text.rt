@@ -1,8 +1,8 @@
 // The bytes of strings and identifiers.
-ghost use Rattle.std.specs.Prelude.{◌≡◌, ◌+◌, ◌≤◌, length};
-ghost use Rattle.std.proofs.Math.Seq.{slice};
-ghost use Rattle.tokens.specs.Text.{is_letter, is_mark, obeys, every, lower_of};
+ghost use Rattle.std.specs.Prelude.{◌≡◌};
+ghost use Rattle.tokens.specs.Text.{is_letter, is_mark, obeys, every, is_name, lower_of};
 
+use crate::values::name_size;
 use tokens::Rule;
 
 pub fn is_letter(b: u8) -> bool
@@ -30,17 +30,23 @@ fn obeys_rule(rule: Rule, b: u8) -> bool
 }
 
 // Every byte of the part obeys the rule. The loop has no way out, so that many bytes are compared at once.
-pub fn all_obey(rule: Rule, s: &[u8], start: usize, len: usize) -> bool
-    requires { start + len ≤ length s.now }
-    ensures { result ≡ every rule (slice start (start + len) s.now) }
+pub fn all_obey(rule: Rule, part: &[u8]) -> bool
+    ensures { result ≡ every rule part.now }
 {
     let mut good = true;
-    for &b in &s[start..start + len] {
+    for &b in part {
         if !obeys_rule(rule, b) {
             good = false;
         }
     }
     good
+}
+
+// An identifier whose bytes obey the rule: the first is a letter.
+pub fn is_name(rule: Rule, part: &[u8]) -> bool
+    ensures { result ≡ is_name rule part.now }
+{
+    name_size(part.len()) && is_letter(part[0]) && all_obey(rule, part)
 }
 
 // Upper case reads as lower.

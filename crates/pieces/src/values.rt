@@ -1,6 +1,5 @@
 // How many bytes a number or an identifier has; the value of bytes, high byte first, and two's complement of 1 to 4 bytes.
 ghost use Rattle.std.specs.Prelude.{◌≡◌, ◌+◌, ◌*◌, ◌/◌, ◌%◌, ◌^◌, ◌<◌, ◌≤◌, ◌&&◌, leb, length};
-ghost use Rattle.std.proofs.Math.Seq.{slice};
 ghost use Rattle.tokens.specs.Format.{longest_name};
 ghost use Rattle.tokens.specs.Bytes.{value_after, signed_of};
 ghost use Rattle.tokens.specs.Token.{integer_size, rational_size};
@@ -26,13 +25,13 @@ pub fn name_size(len: usize) -> bool
     (1..=100).contains(&len)
 }
 
-// The value of `len` bytes of `s` from `at` on, set after the `had` bytes of value `before`.
-pub fn value_after(before: u64, had: usize, s: &[u8], at: usize, len: usize) -> u64
-    requires { (had + len ≤ 8) × (before < 2 ^ (8 * had)) × (at + len ≤ length s.now) }
-    ensures { (result ≡ value_after before (slice at (at + len) s.now)) × (result < 2 ^ (8 * (had + len))) }
+// The value of the part's bytes, set after the `had` bytes of value `before`.
+pub fn value_after(before: u64, had: usize, part: &[u8]) -> u64
+    requires { (had + length part.now ≤ 8) × (before < 2 ^ (8 * had)) }
+    ensures { (result ≡ value_after before part.now) × (result < 2 ^ (8 * (had + length part.now))) }
 {
     let mut v = before;
-    for &b in &s[at..at + len] {
+    for &b in part {
         v = (v << 8) | (b as u64);
     }
     v

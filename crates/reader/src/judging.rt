@@ -12,6 +12,7 @@ ghost use Rattle.tokens.specs.Inner.{Fitting, judged_by, rational_by};
 use numbers::{NoNumber, Number};
 use pieces::text::is_letter;
 use pieces::values::{extended, high_half, integer_size, low_half, name_size, rational_size};
+use tokens::kinds::{COMMENT, CONTINUED, IDENTIFIER, INTEGER, RATIONAL, STRING};
 use tokens::{Read, Refusal, Refused, Summary};
 
 // A number's token, or the refusal where there is no such number.
@@ -44,22 +45,12 @@ pub fn rational(at: usize, v: u64, h: usize, next: usize) -> Result<Read, Refuse
     )
 }
 
-// A string's token, if its data are good.
-pub fn string_read(at: usize, good: bool, len: usize, next: usize) -> Result<Read, Refused>
-    ensures { result ≡ ruled at good (Ok (Read.String len next)) }
+// A text's token, if its data are good.
+pub fn ruled(at: usize, good: bool, read: Read) -> Result<Read, Refused>
+    ensures { result ≡ ruled at good (Ok read) }
 {
     if good {
-        return Ok(Read::String { count: len, next });
-    }
-    Err(Refusal::BadData.met_at(at))
-}
-
-// An identifier's token, if its data are good.
-pub fn identifier_read(at: usize, good: bool, len: usize, next: usize) -> Result<Read, Refused>
-    ensures { result ≡ ruled at good (Ok (Read.Identifier len next)) }
-{
-    if good {
-        return Ok(Read::Identifier { len, next });
+        return Ok(read);
     }
     Err(Refusal::BadData.met_at(at))
 }
@@ -68,13 +59,11 @@ pub fn identifier_read(at: usize, good: bool, len: usize, next: usize) -> Result
 pub fn unruled(k: u8, at: usize, next: usize) -> Result<Read, Refused>
     ensures { result ≡ cond (eqb k comment_type) (Ok (Read.Comment next)) (cond (eqb k continued_type) (Err (refusal_at Refusal.NothingContinued at)) (Err (refusal_at Refusal.TypeNotRead at))) }
 {
-    if k == 6 {
-        return Ok(Read::Comment { next });
+    match k {
+        COMMENT => Ok(Read::Comment { next }),
+        CONTINUED => Err(Refusal::NothingContinued.met_at(at)),
+        _ => Err(Refusal::TypeNotRead.met_at(at)),
     }
-    if k == 7 {
-        return Err(Refusal::NothingContinued.met_at(at));
-    }
-    Err(Refusal::TypeNotRead.met_at(at))
 }
 
 fn judge_integer(at: usize, g: Summary, next: usize) -> Result<Read, Refused>
@@ -117,17 +106,11 @@ pub fn judge(k: u8, at: usize, g: Summary, next: usize) -> Result<Read, Refused>
     requires { Fitting g }
     ensures { result ≡ judged_by k at g next }
 {
-    if k == 1 {
-        return string_read(at, g.good, g.len, next);
+    match k {
+        STRING => ruled(at, g.good, Read::String { count: g.len, next }),
+        INTEGER => judge_integer(at, g, next),
+        RATIONAL => judge_rational(at, g, next),
+        IDENTIFIER => ruled(at, is_named(g), Read::Identifier { len: g.len, next }),
+        _ => unruled(k, at, next),
     }
-    if k == 2 {
-        return judge_integer(at, g, next);
-    }
-    if k == 4 {
-        return judge_rational(at, g, next);
-    }
-    if k == 5 {
-        return identifier_read(at, is_named(g), g.len, next);
-    }
-    unruled(k, at, next)
 }

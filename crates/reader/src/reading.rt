@@ -21,10 +21,11 @@ pub fn sequence_at(s: &[u8], at: usize) -> Result<Read, Refused>
     let Some(piece) = piece_at(s, at) else {
         return Err(Refusal::CutOff.met_at(at));
     };
-    if !is_continued_at(s, piece.start + piece.len) {
-        return single(k, at, s, piece.start, piece.len);
+    let next = piece.start + piece.len;
+    if !is_continued_at(s, next) {
+        return single(k, at, &s[piece.start..next], next);
     }
-    let whole = gather(k, s, piece.start, piece.len)?;
+    let whole = gather(k, s, piece)?;
     judge(k, at, whole.sum, whole.next)
 }
 

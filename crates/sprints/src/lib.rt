@@ -20,11 +20,11 @@ ghost use Rattle.state.specs.Layout.{Busy};
 ghost use Rattle.literals.specs.Dues.{LiteralThere};
 ghost use Rattle.sprints.specs.Swift.{TokenThere, LiteralsLeft, undone_height, height_in, marked, origin, ending, quiet, Flat, Strides, Rowed};
 
-use literals::reading::{NAME, TEXT};
 use machine::{Effect, FrameOp, Next, TestOp, Value, VectorOp, Work};
 use numbers::{NoNumber, Number};
 use state::Registers;
 use tokens::Form;
+use tokens::kinds::{IDENTIFIER, STRING};
 
 // What a literal leaves: the height of the stack, and where the next token stands. `number` is the operator at its place, 0 for none.
 #[derive(Clone, Copy)]
@@ -316,10 +316,10 @@ fn sequence(w: &mut [u8], r: Registers, b: &[u8], at: usize) -> Stride
     if !nesting::bodies::is_solid(b, at) {
         return undone(at);
     }
-    if tokens::bits::low5(b[at]) == TEXT {
+    if tokens::bits::low5(b[at]) == STRING {
         return undone(at);
     }
-    if tokens::bits::low5(b[at]) == NAME {
+    if tokens::bits::low5(b[at]) == IDENTIFIER {
         let x = passing::known::extent(b, at);
         let height = height_of(state::stack::push_name(
             w,

@@ -1,7 +1,6 @@
 // A string's elements go from the bytes into cells.
 ghost use Rattle.std.specs.Prelude.{◌≡◌, ◌+◌, ◌*◌, ◌≤◌, length};
 ghost use Rattle.std.proofs.lemmas.List.Edits.{sets};
-ghost use Rattle.std.proofs.Math.Seq.{slice};
 ghost use Rattle.table.specs.Slots.{slots};
 ghost use Rattle.tokens.specs.Joined.{data_of, joined_at, continuations, FitsText};
 ghost use Rattle.state.specs.Layout.{Busy, Tried};
@@ -10,18 +9,18 @@ ghost use Rattle.state.specs.Operations.{letter_slots, spell};
 use state::Registers;
 use table::Slot;
 
-// The `len` bytes of b from `from` on as numbers in the slots from k on.
-fn put_piece(w: &mut [u8], k: usize, b: &[u8], from: usize, len: usize)
-    requires { (20 * (k + len) ≤ length w.old) × (from + len ≤ length b.now) }
-    ensures { slots w.new ≡ sets (slots w.old) k (letter_slots (slice from (from + len) b.now)) }
+// The bytes of the part as numbers in the slots from k on.
+fn put_piece(w: &mut [u8], k: usize, part: &[u8])
+    requires { 20 * (k + length part.now) ≤ length w.old }
+    ensures { slots w.new ≡ sets (slots w.old) k (letter_slots part.now) }
 {
-    for i in 0..len {
+    for i in 0..part.len() {
         table::slots::put(
             w,
             k + i,
             Slot {
                 kind: 1,
-                a: b[from + i] as u32,
+                a: part[i] as u32,
                 b: 1,
                 c: 0,
                 d: 0,
@@ -41,8 +40,8 @@ fn put_pieces(w: &mut [u8], k: usize, b: &[u8], start: usize)
         let Some(piece) = pieces::sequences::next_piece(b, at) else {
             return;
         };
-        put_piece(w, q, b, piece.start, piece.len);
         at = piece.start + piece.len;
+        put_piece(w, q, &b[piece.start..at]);
         q += piece.len;
     }
 }
@@ -61,8 +60,9 @@ fn put_letters(w: &mut [u8], k: usize, b: &[u8], at: usize, n: usize)
     let Some(piece) = pieces::sequences::piece_at(b, at) else {
         return;
     };
-    put_piece(w, k, b, piece.start, piece.len);
-    put_pieces(w, k + piece.len, b, piece.start + piece.len);
+    let next = piece.start + piece.len;
+    put_piece(w, k, &b[piece.start..next]);
+    put_pieces(w, k + piece.len, b, next);
 }
 
 // The string token at `at` of the bytes b becomes a vector.

@@ -1,7 +1,6 @@
 // Words and runs of bytes, read and stored.
 ghost use Rattle.std.specs.Prelude.{◌≡◌, ◌+◌, ◌<◌, ◌≤◌, length};
 ghost use Rattle.std.proofs.lemmas.List.Edits.{sets};
-ghost use Rattle.std.proofs.Math.Seq.{slice};
 ghost use Rattle.table.specs.Words.{word_at, word_bytes};
 
 // A count as a word.
@@ -35,12 +34,12 @@ pub fn put_word(b: &mut [u8], i: usize, w: u32)
     b[i..i + 4].copy_from_slice(&w.to_le_bytes());
 }
 
-// Copies `len` bytes of `x` from `from` on to `at`. Not `copy_from_slice`: the archive would ask for `memmove` (docs/HOST.md).
-pub fn copy(out: &mut [u8], at: usize, x: &[u8], from: usize, len: usize)
-    requires { (at + len ≤ length out.old) × (from + len ≤ length x.now) }
-    ensures { out.new ≡ sets out.old at (slice from (from + len) x.now) }
+// Copies the bytes of `x` to `at` on. Not `copy_from_slice`: the archive would ask for `memmove` (docs/HOST.md).
+pub fn copy(out: &mut [u8], at: usize, x: &[u8])
+    requires { at + length x.now ≤ length out.old }
+    ensures { out.new ≡ sets out.old at x.now }
 {
-    for i in 0..len {
-        out[at + i] = x[from + i];
+    for i in 0..x.len() {
+        out[at + i] = x[i];
     }
 }

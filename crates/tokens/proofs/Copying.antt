@@ -1,11 +1,9 @@
 -- The data of a sequence with all that continues it, stored a piece at a time into a list of elements, each byte as one of them. In
 -- order: data joined before others; the pieces that continue; the whole; how many bytes. Assumes nothing.
 use Rattle.std.specs.Prelude.{Result, Ok, Err, Option, Some, None}
-use Rattle.tokens.specs.Refusal.{refusal_at}
 use Rattle.tokens.specs.declared.Refused.{Refused}
 use Rattle.tokens.specs.Joined.{piece_from}
 use Rattle.tokens.specs.Inner.{gathered}
-use Rattle.tokens.specs.declared.Refusal.TheVariants.{CutOff}
 use mathlib.Core.Path.{◌≡◌, refl, sym, ap, subst, ◌∙◌}
 use mathlib.Core.Bool.{Bool, true, false, cond}
 use mathlib.Core.List.{List, [], ◌∷◌, ◌++◌, append_assoc, append-nil}
@@ -20,8 +18,7 @@ use Rattle.tokens.specs.declared.Piece.{Piece}
 use Rattle.tokens.specs.declared.Summary.{Summary}
 use Rattle.tokens.specs.declared.Gathered.{Gathered}
 use Rattle.tokens.specs.Bytes.{value_of}
-use Rattle.tokens.specs.Text.{every}
-use Rattle.tokens.specs.Inner.{rule_of, room_of, summary_of, gathered_of}
+use Rattle.tokens.specs.Inner.{summary_of, gathered_of}
 use Rattle.tokens.specs.Joined.{Joined, whole, cut_at, length_bytes, within, piece_at, continued, on_piece, joined_from, joined_at, data_of, continuing, continuations, FitsText}
 use Rattle.tokens.proofs.Pieces.{Inside, inside, joined_data, joined_missing}
 use Rattle.tokens.proofs.Summaries.{part_length}

@@ -13,7 +13,7 @@ use lib.Seq.{take_all}
 use borrow.Author.Tests.{eqb-true}
 use Rattle.numbers.specs.Fraction.{ratio_of}
 use Rattle.tokens.specs.declared.Gathered.{Gathered}
-use Rattle.tokens.specs.declared.Refusal.TheVariants.{CutOff, BadData}
+use Rattle.tokens.specs.declared.Refusal.TheVariants.{BadData}
 use Rattle.tokens.specs.declared.Refused.{Refused}
 use Rattle.tokens.specs.declared.Summary.{Summary}
 use Rattle.tokens.specs.Bytes.{value_after, signed_of}

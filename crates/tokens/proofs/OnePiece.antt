@@ -12,7 +12,7 @@ use lib.Dec.{ltb, eqb}
 use lib.IntN.{ℤ, pos, negsuc, neg_ℤ, nat_abs, ◌-ℤ◌}
 use lib.ListN.{length, get_or, take, drop}
 use lib.Pow.{pow_mono}
-use lib.Seq.{slice, drop-drop}
+use lib.Seq.{slice}
 use lib.Signed.{quot_z}
 use borrow.Author.Tests.{lt-ltb, le-ltb, le-leb, eq-eqb, ne_eqb, ltb-true, ltb-false}
 use Rattle.numbers.specs.Fraction.{Answer}
@@ -29,7 +29,6 @@ use Rattle.tokens.specs.Joined.{continued, piece_at, joined_at}
 use Rattle.tokens.specs.Token.{number_read, integer_size, rational_size, integer_in, rational_in, judged, sequence, token_of, token_at}
 use Rattle.tokens.specs.Passing.{pass_of, Answered}
 use Rattle.tokens.proofs.Signs.{abs_diff}
-use Rattle.tokens.proofs.Summaries.{take_slice}
 use Rattle.tokens.proofs.Pieces.{joined_data}
 use Rattle.tokens.proofs.Turns.{turn}
 
@@ -86,14 +85,11 @@ differs a b e z = false≢true (ap not (sym (eq-eqb a b z)) ∙ e)
 pub integer_answered : (n v : ℕ) (d : List ℕ) → v ≡ value_of d → n ≤ 4 → v < 2 ^ (8 * n) → (v ≡ 2147483648 → ⊥) → Answered (ratio_of (integer_in n d) (pos 1))
 integer_answered n v d e hn hv h = rw (← e) (ratio_answered (signed_of n v) (pos 1) (small n v hv hn h) (omega arith) (λ z. omega arith))
 
--- two halves of h bytes from a on
-pub rational_answered : (h m v w a : ℕ) (s : List ℕ) → h ≤ 4 → m ≡ h + h → v ≡ value_of (slice a (a + h) s) → w ≡ value_of (slice (a + h) (a + h + h) s) → v < 2 ^ (8 * h) → w < 2 ^ (8 * h)
-    → (v ≡ 2147483648 → ⊥) → (w ≡ 2147483648 → ⊥) → (w ≡ 0 → ⊥) → Answered (rational_in h (slice a (a + m) s))
-rational_answered h m v w a s hh l e f hv hw nv nw nz =
-    let t : a + h + h ≡ a + m = omega arith in
-    let p : take h (slice a (a + m) s) ≡ slice a (a + h) s = take_slice s a h m (omega arith) in
-    let q : drop h (slice a (a + m) s) ≡ slice (a + h) (a + h + h) s = drop-drop h a (take (a + m) s) ∙ ap (λ (x : ℕ). slice (a + h) x s) (sym t) in
-    rw (p, q, ← e, ← f) (ratio_answered (signed_of h v) (signed_of h w) (small h v hv hh nv) (small h w hw hh nw) (not_zero h w hw nz))
+-- two halves of h bytes
+pub rational_answered : (h v w : ℕ) (d : List ℕ) → h ≤ 4 → v ≡ value_of (take h d) → w ≡ value_of (drop h d) → v < 2 ^ (8 * h) → w < 2 ^ (8 * h)
+    → (v ≡ 2147483648 → ⊥) → (w ≡ 2147483648 → ⊥) → (w ≡ 0 → ⊥) → Answered (rational_in h d)
+rational_answered h v w d hh e f hv hw nv nw nz =
+    rw (← e, ← f) (ratio_answered (signed_of h v) (signed_of h w) (small h v hv hh nv) (small h w hw hh nw) (not_zero h w hw nz))
 
 answered_over : (at next : ℕ) (a : Answer) → Answered a → pass_of (number_read at next a) ≡ Ok next
 unfolding pass_of number_read

@@ -3,13 +3,13 @@
 use mathlib.Core.Path.{◌≡◌, refl, sym, ap, ◌∙◌}
 use mathlib.Core.Bool.{Bool, true, cond, ◌&&◌}
 use mathlib.Core.List.{List, [], ◌∷◌, ◌++◌}
-use Prim.Native.Nat.{ℕ, zero, suc, ◌+◌, ◌-◌, ◌<◌, ◌≤◌}
-use native.Mathlib.Nat.{add-zero, zero-add}
+use Prim.Native.Nat.{ℕ, zero, suc, ◌+◌, ◌-◌, ◌≤◌}
+use native.Mathlib.Nat.{zero-add}
 use native.Mathlib.Omega.{arith}
 use lib.Dec.{eqb}
 use lib.ListN.{length, get_or, take, drop, length-append}
-use lib.Seq.{slice, slice-cons, slice_empty, length-slice, take_all, take-take, take-nil, drop-nil}
-use borrow.Author.Tests.{eq-eqb, ne_eqb}
+use lib.Seq.{slice, length-slice, take-take, take-nil, drop-nil}
+use borrow.Author.Tests.{ne_eqb}
 use Rattle.tokens.specs.declared.Summary.{Summary}
 use Rattle.tokens.specs.Bytes.{value_after}
 use Rattle.tokens.specs.Text.{every}
@@ -29,21 +29,6 @@ take_slice s a n len h = take_drop n a (take (a + len) s) ∙ ap (drop a) (take-
 
 pub part_length : (s : List ℕ) (a n : ℕ) → a + n ≤ length s → length (slice a (a + n) s) ≡ n
 part_length s a n h = length-slice a (a + n) s h ∙ omega arith
-
-pub take_part : (s : List ℕ) (a n len : ℕ) → a + len ≤ length s → len ≤ n → take n (slice a (a + len) s) ≡ slice a (a + len) s
-take_part s a n len h k = take_all n (slice a (a + len) s) (omega (arith, part_length s a len h))
-
--- ---- the first byte
-
-module _ (s : List ℕ) (start len had first : ℕ) where
-  pub first_had : (had ≡ 0 → ⊥) → first ≡ cond (eqb had 0) (get_or (slice start (start + len) s) 0 0) first
-  first_had h = rw (ne_eqb had 0 h)
-
-  pub first_none : had ≡ 0 → len ≡ 0 → 0 ≡ cond (eqb had 0) (get_or (slice start (start + len) s) 0 0) first
-  first_none h e = rw (eq-eqb had 0 h, e, add-zero start, slice_empty start s)
-
-  pub first_byte : had ≡ 0 → 0 < len → start + len ≤ length s → get_or s start 0 ≡ cond (eqb had 0) (get_or (slice start (start + len) s) 0 0) first
-  first_byte h e k = rw (eq-eqb had 0 h, slice-cons start (start + len) s 0 (omega arith) k)
 
 -- ---- a piece more
 

@@ -4,6 +4,7 @@
 
 pub mod refusals; // every refusal of the product by number
 pub mod header; // the header of a master
+pub mod kinds; // the types of sequences
 pub mod bits; // fields of a token's first bytes
 pub mod forms; // the form of the token at a place
 mod reads; // the place after a token

@@ -7,6 +7,8 @@ use Prim.Native.Nat.{ℕ, ◌+◌, ◌-◌}
 use native.Mathlib.Omega.{arith}
 use lib.ListN.{length}
 use lib.Seq.{slice}
+use Rattle.std.proofs.lemmas.List.Edits.{length-between}
+use Rattle.std.proofs.lemmas.Slice.{between_is}
 use Rattle.tokens.specs.Joined.{continuing}
 use Rattle.tokens.proofs.Copying.{as_found, none_left, copied_end, piece_fits, copied_next}
 use Rattle.filling.specs.Filling.{shown}
@@ -32,7 +34,13 @@ returns-in_default c = copied_end (shows _) c.loop-at.invariant.2 c.requires (sy
 
 pub put_part-requires : goal.put_part-requires
 put_part-requires c =
-    let w = piece_fits (shows _) c.loop-at.invariant.2 c.requires (here (goal.at.put_part-requires c).In-Some) in (omega (arith, w.2), w.1)
+    let w = piece_fits (shows _) c.loop-at.invariant.2 c.requires (here (goal.at.put_part-requires c).In-Some) in
+    let f : ℕ = c.in-Some.piece.start in
+    omega (arith, w.2, length-between c.args.s.now f (f + c.in-Some.piece.len) w.1)
+
+pub slice_bounds-put_part-end : goal.slice_bounds-put_part-end
+slice_bounds-put_part-end c =
+    (piece_fits (shows _) c.loop-at.invariant.2 c.requires (here (goal.at.slice_bounds-put_part-end c).In-Some)).1
 
 pub overflow_add-at : goal.overflow_add-at
 overflow_add-at c =
@@ -53,7 +61,7 @@ loop-at-preserved c =
       i.0 - 1,
       i.1 ++ slice f (f + c.in-Some.piece.len) c.args.s.now,
       copied_next (shows _) i.2 c.requires (here (goal.at.loop-at-preserved c).In-Some)
-          c.put_part.auto.text c.put_part.ensures,
+          c.put_part.auto.text (rw (between_is c.args.s.now f (f + c.in-Some.piece.len)) at c.put_part.ensures),
     )
 
 pub shape_of-text : goal.shape_of-text

@@ -5,6 +5,8 @@ use mathlib.Core.Path.{◌≡◌, sym, subst, ◌∙◌}
 use Prim.Native.Nat.{ℕ, ◌+◌, ◌≤◌}
 use native.Mathlib.Omega.{arith}
 use lib.ListN.{length}
+use Rattle.std.proofs.lemmas.List.Edits.{length-between}
+use Rattle.std.proofs.lemmas.Slice.{between_is}
 use Rattle.tokens.specs.Joined.{piece_at, FitsText, continuations}
 use Rattle.tokens.proofs.Copying.{first_fits, text_whole}
 use Rattle.filling.specs.Filling.{shown}
@@ -25,10 +27,15 @@ unwrap-piece-requires c =
 
 pub put_part-requires : goal.put_part-requires
 put_part-requires c =
-    let w = begun (goal.at.put_part-requires c).After-unwrap-piece in (w.0, w.1)
+    let w = begun (goal.at.put_part-requires c).After-unwrap-piece in
+    let f : ℕ = c.unwrap-piece.result.start in
+    omega (arith, w.0, length-between c.args.s.now f (f + c.unwrap-piece.result.len) w.1)
 
-pub overflow_add-piece : goal.overflow_add-piece
-overflow_add-piece c = omega (arith, (begun (goal.at.overflow_add-piece c).After-unwrap-piece).1)
+pub slice_bounds-put_part-end : goal.slice_bounds-put_part-end
+slice_bounds-put_part-end c = (begun (goal.at.slice_bounds-put_part-end c).After-unwrap-piece).1
+
+pub overflow_add-next : goal.overflow_add-next
+overflow_add-next c = omega (arith, (begun (goal.at.overflow_add-next c).After-unwrap-piece).1)
 
 pub overflow_add-o : goal.overflow_add-o
 overflow_add-o c = omega (arith, (begun (goal.at.overflow_add-o c).After-unwrap-piece).0)
@@ -44,4 +51,4 @@ pub returns : goal.returns
 returns c =
     let a = c.args in
     text_whole a.s.now a.at (length a.text.now) a.o c.requires.1 (here (goal.at.returns c).After-unwrap-piece) (shown a.lower) (shows a.lower) a.text.now
-    c.put_part.ensures c.copy_from.ensures
+    (rw (between_is a.s.now c.unwrap-piece.result.start (c.unwrap-piece.result.start + c.unwrap-piece.result.len)) at c.put_part.ensures) c.copy_from.ensures

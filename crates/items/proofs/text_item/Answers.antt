@@ -1,4 +1,7 @@
 -- `text_item` meets its contract. Assumes nothing.
+use Rattle.std.proofs.lemmas.Slice.{between_is}
+use Rattle.items.specs.Tokens.{writable}
+use mathlib.Core.Path.{ap, ◌∙◌}
 use Prim.Native.Nat.{◌+◌}
 use lib.Seq.{slice}
 use Rattle.items.specs.Judged.{text_token}
@@ -22,11 +25,11 @@ returns-then-is_text c =
     let a = c.args in
     judged_yes a.x.now _ (text_token a.named (slice a.a (a.a + a.b) a.x.now)) _ _
     (place_good a.x.now a.a a.b a.c c.if-c-ne0.false c.if-a-gt2147483647.false c.if-b-gt2147483647.false c.if-start-len.true)
-    c.is_text.ensures c.if-is_text.true (c.text_at.ensures a.x.now (c.if-start-len.true, omega arith))
+    (c.is_text.ensures ∙ ap (λ d. writable (text_token a.named d)) (between_is a.x.now a.a (a.a + a.b))) c.if-is_text.true (c.text_at.ensures a.x.now (c.if-start-len.true, omega arith))
 
 pub returns : goal.returns
 returns c =
     let a = c.args in elim c.else-start-len.branch [
-      | else-start-len-via-then-start-len+else-is_text w ↦ judged_right _ _ _ _ w.is_text.ensures w.if-is_text.false
+      | else-start-len-via-then-start-len+else-is_text w ↦ judged_right _ _ _ _ (w.is_text.ensures ∙ ap (λ d. writable (text_token a.named d)) (between_is a.x.now a.a (a.a + a.b))) w.if-is_text.false
       | else-start-len-via-else-start-len w ↦ judged_left _ _ _ (end_bad a.x.now a.a a.b a.c w.if-start-len.false)
     ]

@@ -11,16 +11,16 @@ use Rattle.sprints.proofs.sequence.Goals as goal
 pub returns-then-not-is_solid : goal.returns-then-not-is_solid
 returns-then-not-is_solid c = strides_none _ _ _ c.undone.ensures
 
-pub returns-then-low5-eq-TEXT : goal.returns-then-low5-eq-TEXT
-returns-then-low5-eq-TEXT c = strides_none _ _ _ c.undone-then-low5-eq-TEXT.ensures
+pub returns-then-low5-eq-STRING : goal.returns-then-low5-eq-STRING
+returns-then-low5-eq-STRING c = strides_none _ _ _ c.undone-then-low5-eq-STRING.ensures
 
-pub word-requires-then-low5-eq-NAME : goal.word-requires-then-low5-eq-NAME
-word-requires-then-low5-eq-NAME c =
-    omega (arith, name_inside _ _ _ refl _ _ (name_there _ _ c.requires.2.1 c.requires.3.0 _ c.extent-x.ensures (sym c.low5-2.ensures ∙ c.if-low5-eq-NAME.true)), c.requires.0)
+pub word-requires-then-low5-eq-IDENTIFIER : goal.word-requires-then-low5-eq-IDENTIFIER
+word-requires-then-low5-eq-IDENTIFIER c =
+    omega (arith, name_inside _ _ _ refl _ _ (name_there _ _ c.requires.2.1 c.requires.3.0 _ c.extent-x.ensures (sym c.low5-2.ensures ∙ c.if-low5-eq-IDENTIFIER.true)), c.requires.0)
 
-pub returns-then-low5-eq-NAME : goal.returns-then-low5-eq-NAME
-returns-then-low5-eq-NAME c =
-    strides_name _ _ _ _ _ _ (name_there _ _ c.requires.2.1 c.requires.3.0 _ c.extent-x.ensures (sym c.low5-2.ensures ∙ c.if-low5-eq-NAME.true)) c.word.ensures c.word-then-low5-eq-NAME.ensures (λ code. flat_of code _ (name_flat _ _ _) _ _ c.height_of-height.ensures (by_name code _ _ _ refl c.push_name.ensures))
+pub returns-then-low5-eq-IDENTIFIER : goal.returns-then-low5-eq-IDENTIFIER
+returns-then-low5-eq-IDENTIFIER c =
+    strides_name _ _ _ _ _ _ (name_there _ _ c.requires.2.1 c.requires.3.0 _ c.extent-x.ensures (sym c.low5-2.ensures ∙ c.if-low5-eq-IDENTIFIER.true)) c.word.ensures c.word-then-low5-eq-IDENTIFIER.ensures (λ code. flat_of code _ (name_flat _ _ _) _ _ c.height_of-height.ensures (by_name code _ _ _ refl c.push_name.ensures))
 
 pub returns-in-Ok-Number : goal.returns-in-Ok-Number
 returns-in-Ok-Number c =

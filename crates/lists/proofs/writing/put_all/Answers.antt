@@ -12,8 +12,7 @@ judged : (c : After-unwrap-item) → Judged c.args.text.now (entry_at c.args.lis
 judged c = rw c.unwrap-item.ensures at c.item_at.ensures
 
 pub copy-requires : goal.copy-requires
-copy-requires c =
-    (fits_start (listed c.args.list.now c.args.text.now) (length c.args.out.now) c.requires, omega arith)
+copy-requires c = fits_start (listed c.args.list.now c.args.text.now) (length c.args.out.now) c.requires
 
 pub loop-at-init : goal.loop-at-init
 loop-at-init c = putting_start c.args.list.now c.args.text.now _

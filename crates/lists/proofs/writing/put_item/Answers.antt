@@ -1,5 +1,7 @@
 -- `writing::put_item` meets its contract. Assumes nothing.
 use Rattle.std.proofs.Common.{arith}
+use Rattle.std.proofs.Common.{◌+◌}
+use Rattle.std.proofs.lemmas.Slice.{between_is}
 use Rattle.lists.proofs.Sizes.{number_bytes, identifier_bytes, string_bytes, operator_bytes_lem}
 use Rattle.lists.proofs.writing.put_item.Goals as goal
 
@@ -13,19 +15,19 @@ returns-in-Number c =
 
 pub put_text-requires : goal.put_text-requires
 put_text-requires c =
-    let e = c.in-Identifier.is in let r = rw (identifier_bytes c.args.x.now c.args.item _ _ e) at c.requires.0 in (r, omega arith, (rw e at c.requires.1).0)
+    let e = c.in-Identifier.is in let r = rw (identifier_bytes c.args.x.now c.args.item _ _ e) at c.requires.0 in (rw (between_is c.args.x.now c.in-Identifier.start (c.in-Identifier.start + c.in-Identifier.len)) r, omega arith)
 
 pub returns-in-Identifier : goal.returns-in-Identifier
 returns-in-Identifier c =
-    let a = c.args in rw (identifier_bytes a.x.now a.item _ _ c.in-Identifier.is) c.put_text.ensures
+    let a = c.args in rw (identifier_bytes a.x.now a.item _ _ c.in-Identifier.is, ← between_is a.x.now c.in-Identifier.start (c.in-Identifier.start + c.in-Identifier.len)) c.put_text.ensures
 
 pub put_text-requires-in-String : goal.put_text-requires-in-String
 put_text-requires-in-String c =
-    let e = c.in-String.is in let r = rw (string_bytes c.args.x.now c.args.item _ _ e) at c.requires.0 in (r, omega arith, (rw e at c.requires.1).0)
+    let e = c.in-String.is in let r = rw (string_bytes c.args.x.now c.args.item _ _ e) at c.requires.0 in (rw (between_is c.args.x.now c.in-String.start (c.in-String.start + c.in-String.len)) r, omega arith)
 
 pub returns-in-String : goal.returns-in-String
 returns-in-String c =
-    let a = c.args in rw (string_bytes a.x.now a.item _ _ c.in-String.is) c.put_text-in-String.ensures
+    let a = c.args in rw (string_bytes a.x.now a.item _ _ c.in-String.is, ← between_is a.x.now c.in-String.start (c.in-String.start + c.in-String.len)) c.put_text-in-String.ensures
 
 pub put_operator-requires : goal.put_operator-requires
 put_operator-requires c =

@@ -1,15 +1,9 @@
-use Rattle.tokens.proofs.Summaries.{first_had, first_none, first_byte}
 use native.Mathlib.Omega.{arith}
+use borrow.Author.Tests.{eq-eqb, ne_eqb}
 use Rattle.pieces.proofs.sequences.first_of.Goals as goal
 
 pub returns-then-had-ne0 : goal.returns-then-had-ne0
-returns-then-had-ne0 c =
-    let a = c.args in first_had a.s.now a.start a.len a.had a.first c.if-had-ne0.true
-
-pub returns-then-len-eq0 : goal.returns-then-len-eq0
-returns-then-len-eq0 c =
-    let a = c.args in first_none a.s.now a.start a.len a.had a.first (omega arith) c.if-len-eq0.true
+returns-then-had-ne0 c = rw (ne_eqb c.args.had 0 c.if-had-ne0.true)
 
 pub returns : goal.returns
-returns c =
-    let a = c.args in first_byte a.s.now a.start a.len a.had a.first (omega arith) (omega arith) (omega arith)
+returns c = rw (eq-eqb c.args.had 0 (omega arith))

@@ -2,9 +2,11 @@
 -- Assumes nothing.
 use Rattle.std.specs.Prelude.{Some, Err}
 use Rattle.tokens.specs.Joined.{piece_from}
+use Rattle.std.proofs.lemmas.List.Edits.{length-between}
+use Rattle.std.proofs.lemmas.Slice.{between_is}
 use lib.ListN.{length, length-append}
 use Rattle.tokens.proofs.Turns.{ended, broken, went, at_end_lem}
-use Rattle.tokens.proofs.Summaries.{summary_append, summary_first, summary_length, part_length}
+use Rattle.tokens.proofs.Summaries.{summary_append, summary_first, summary_length, part_length, nothing}
 use Rattle.tokens.proofs.Pieces.{Inside, inside}
 use Rattle.tokens.specs.Inner.{added}
 use lib.Seq.{slice}
@@ -22,7 +24,9 @@ part c =
     w
 
 pub take_piece-sum-requires : goal.take_piece-sum-requires
-take_piece-sum-requires c = (omega arith, (λ h. omega arith), omega arith)
+take_piece-sum-requires c =
+    let a = c.args in
+    (omega (arith, length-between a.s.now a.own.start (a.own.start + a.own.len) (omega arith)), (λ h. omega arith))
 
 pub overflow_add-at : goal.overflow_add-at
 overflow_add-at c = omega arith
@@ -30,10 +34,10 @@ overflow_add-at c = omega arith
 pub loop-at-init : goal.loop-at-init
 loop-at-init c =
     let a = c.args in
-    let d = slice a.start (a.start + a.len) a.s.now in
-    let e = c.take_piece-sum.ensures.0 ∙ summary_first a.k d in
+    let d = slice a.own.start (a.own.start + a.own.len) a.s.now in
+    let e = c.take_piece-sum.ensures.0 ∙ ap (added a.k nothing) (between_is a.s.now a.own.start (a.own.start + a.own.len)) ∙ summary_first a.k d in
     let m = ap (λ g. g.len) e ∙ summary_length a.k d in
-    let n = part_length a.s.now a.start a.len (omega arith) in
+    let n = part_length a.s.now a.own.start a.own.len (omega arith) in
     (length a.s.now, d, e, c.take_piece-sum.ensures.1, omega arith, omega arith, omega arith, refl)
 
 pub bounds-s-at : goal.bounds-s-at
@@ -60,7 +64,16 @@ pub take_piece-sum-requires-in-loop-at : goal.take_piece-sum-requires-in-loop-at
 take_piece-sum-requires-in-loop-at c =
     let a = c.args in
     let i = c.loop-at.invariant in
-    (omega (arith, (part (goal.at.take_piece-sum-requires-in-loop-at c).In-Some).0, (part (goal.at.take_piece-sum-requires-in-loop-at c).In-Some).1, i.4, c.well_formed), i.3, omega (arith, (part (goal.at.take_piece-sum-requires-in-loop-at c).In-Some).1))
+    let f : ℕ = c.in-Some.piece.start in
+    let n : ℕ = c.in-Some.piece.len in
+    let p = part (goal.at.take_piece-sum-requires-in-loop-at c).In-Some in
+    (omega (arith, p.0, p.1, length-between a.s.now f (f + n) p.1, i.4, c.well_formed), i.3)
+
+pub overflow_add-piece : goal.overflow_add-piece
+overflow_add-piece c = omega (arith, (part (goal.at.overflow_add-piece c).In-Some).1, c.well_formed)
+
+pub slice_bounds-take_piece-end-in-loop-at : goal.slice_bounds-take_piece-end-in-loop-at
+slice_bounds-take_piece-end-in-loop-at c = (part (goal.at.slice_bounds-take_piece-end-in-loop-at c).In-Some).1
 
 pub overflow_add-at-in-loop-at : goal.overflow_add-at-in-loop-at
 overflow_add-at-in-loop-at c =
@@ -80,7 +93,7 @@ loop-at-preserved c =
     let f : ℕ = c.in-Some.piece.start in
     let n : ℕ = c.in-Some.piece.len in
     let p = slice f (f + n) a.s.now in
-    let e = c.take_piece-sum-in-loop-at.ensures.0 ∙ ap (λ g. added a.k g p) i.2 ∙ sym (summary_append a.k i.1 p) in
+    let e = c.take_piece-sum-in-loop-at.ensures.0 ∙ ap (added a.k o.sum) (between_is a.s.now f (f + n)) ∙ ap (λ g. added a.k g p) i.2 ∙ sym (summary_append a.k i.1 p) in
     let m = ap (λ g. g.len) e ∙ summary_length a.k (i.1 ++ p) in
     let q = ap (λ g. g.len) i.2 ∙ summary_length a.k i.1 in
     let l = part_length a.s.now f n (part (goal.at.loop-at-preserved c).In-Some).1 in

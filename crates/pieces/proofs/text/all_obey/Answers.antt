@@ -5,7 +5,6 @@ use mathlib.Core.List.{List}
 use Prim.Native.Nat.{ℕ, ◌+◌, ◌<◌}
 use lib.ListN.{length, get_or, take}
 use Rattle.std.proofs.lemmas.List.{take_more, take_all}
-use Rattle.std.proofs.lemmas.Slice.{between_is}
 use Rattle.tokens.specs.declared.Rule.{Rule}
 use Rattle.tokens.specs.Text.{obeys, every}
 use Rattle.tokens.proofs.Rules.{every_append}
@@ -42,4 +41,4 @@ loop-b-preserved c =
 pub returns : goal.returns
 returns c =
     let a = c.args in
-    c.loop-b.invariant ∙ ap (every a.rule) (take_all c.loop-b.b-index _ c.loop-b-test.false ∙ between_is a.s.now a.start (a.start + a.len))
+    c.loop-b.invariant ∙ ap (every a.rule) (take_all c.loop-b.b-index _ c.loop-b-test.false)

@@ -6,9 +6,6 @@ use native.Mathlib.Nat.{add-zero}
 use native.Mathlib.Omega.{arith}
 use lib.ListN.{length, get_or, take}
 use Rattle.std.proofs.lemmas.List.{take_more, take_all}
-use Rattle.std.proofs.lemmas.List.Edits.{length-between, get_or-between}
-use Rattle.std.proofs.lemmas.Slice.{between_is}
-use Rattle.std.specs.List.{between}
 use Rattle.tokens.specs.Bytes.{value_after}
 use Rattle.tokens.proofs.HighFirst.{shl_or, grows, wider, value_append}
 use Rattle.pieces.proofs.values.value_after.Goals as goal
@@ -25,10 +22,9 @@ pub loop-b-preserved : goal.loop-b-preserved
 loop-b-preserved c =
     let a = c.args in
     let o = c.loop-b in
-    let s : List ℕ = between a.at (a.at + a.len) a.s.now in
-    let n : length s ≡ a.len = length-between a.s.now a.at (a.at + a.len) c.requires.2 ∙ omega arith in
-    let hb : get_or s o.b-index 0 < 256 = rw (get_or-between a.s.now a.at (a.at + a.len) o.b-index 0 (omega arith)) (omega (arith, c.type_inv.s (a.at + o.b-index))) in
-    let e = shl_or o.v (get_or s o.b-index 0) (wider (a.had + o.b-index) 7 (omega arith) o.invariant.0) hb in
+    let s = a.part.now in
+    let hb : get_or s o.b-index 0 < 256 = omega (arith, c.type_inv.part o.b-index) in
+    let e = shl_or o.v (get_or s o.b-index 0) (wider (a.had + o.b-index) 7 (omega (arith, c.requires.0, c.loop-b-test.true)) o.invariant.0) hb in
     let g : a.had + (o.b-index + 1) ≡ a.had + o.b-index + 1 = omega arith in
     (rw (e, g) (grows (a.had + o.b-index) o.v _ o.invariant.0 hb), e ∙ ap (λ (v : ℕ). v * 256 + get_or s o.b-index 0) o.invariant.1 ∙ sym (more a.before s o.b-index c.loop-b-test.true))
 
@@ -36,7 +32,5 @@ pub returns : goal.returns
 returns c =
     let a = c.args in
     let o = c.loop-b in
-    let s : List ℕ = between a.at (a.at + a.len) a.s.now in
-    let n : length s ≡ a.len = length-between a.s.now a.at (a.at + a.len) c.requires.2 ∙ omega arith in
-    let e : o.b-index ≡ a.len = omega arith in
-    (o.invariant.1 ∙ ap (value_after a.before) (take_all o.b-index s c.loop-b-test.false ∙ between_is a.s.now a.at (a.at + a.len)), rw e at o.invariant.0)
+    let e : o.b-index ≡ length a.part.now = omega arith in
+    (o.invariant.1 ∙ ap (value_after a.before) (take_all o.b-index a.part.now c.loop-b-test.false), rw e at o.invariant.0)

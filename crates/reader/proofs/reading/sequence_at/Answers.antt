@@ -1,9 +1,7 @@
 -- `reading::sequence_at` meets its contract: no piece, a piece that nothing continues, or joined pieces. Assumes nothing.
 use Rattle.std.specs.Prelude.{Ok, Err, Some}
-use Rattle.tokens.specs.Refusal.{refusal_at}
 use Rattle.tokens.specs.Joined.{piece_from}
 use Rattle.tokens.specs.Inner.{gathered}
-use Rattle.tokens.specs.declared.Refusal.TheVariants.{CutOff}
 use Rattle.tokens.proofs.Ends.{joined_bytes}
 use Rattle.tokens.proofs.Judged.{sequence_whole, sequence_broken}
 use Rattle.tokens.proofs.OnePiece.{sequence_one}
@@ -15,6 +13,7 @@ use Rattle.tokens.specs.Joined.{joined_at, piece_at}
 use Prim.Native.Nat.{ℕ, ◌+◌, ◌%◌, ◌≤◌}
 use lib.ListN.{length, get_or}
 use lib.Seq.{slice}
+use Rattle.std.proofs.lemmas.Slice.{between_is}
 use native.Mathlib.Omega.{arith}
 use mathlib.Core.Path.{◌≡◌, sym, ap, ◌∙◌}
 use Rattle.std.proofs.lemmas.Result.{err_from_is_err_and}
@@ -38,11 +37,11 @@ returns-in_default c =
     let a = c.args in
     ap Err c.met_at.ensures ∙ rw (joined_missing a.s.now a.at (sym c.piece_at.ensures ∙ c.in_default.is))
 
-pub overflow_add-piece : goal.overflow_add-piece
-overflow_add-piece c = omega (arith, ends (goal.at.overflow_add-piece c).In-Some, c.well_formed)
+pub overflow_add-next : goal.overflow_add-next
+overflow_add-next c = omega (arith, ends (goal.at.overflow_add-next c).In-Some, c.well_formed)
 
-pub single-requires : goal.single-requires
-single-requires c = ends (goal.at.single-requires c).In-Some
+pub slice_bounds-single-end : goal.slice_bounds-single-end
+slice_bounds-single-end c = ends (goal.at.slice_bounds-single-end c).In-Some
 
 pub returns-then-not-is_continued_at : goal.returns-then-not-is_continued_at
 returns-then-not-is_continued_at c =
@@ -50,7 +49,7 @@ returns-then-not-is_continued_at c =
     let f : ℕ = c.in-Some.piece.start in
     let n : ℕ = c.in-Some.piece.len in
     let e = ap (λ (k : ℕ). judged k a.at (slice f (f + n) a.s.now) (f + n)) c.low5-k.ensures in
-    c.single.ensures ∙ e ∙ sym (sequence_one (get_or a.s.now a.at 0 % 32) a.s.now a.at f n (data_is (goal.at.returns-then-not-is_continued_at c).In-Some) (sym c.is_continued_at.ensures ∙ c.if-not-is_continued_at.true))
+    c.single.ensures ∙ ap (λ d. judged c.low5-k.result a.at d (f + n)) (between_is a.s.now f (f + n)) ∙ e ∙ sym (sequence_one (get_or a.s.now a.at 0 % 32) a.s.now a.at f n (data_is (goal.at.returns-then-not-is_continued_at c).In-Some) (sym c.is_continued_at.ensures ∙ c.if-not-is_continued_at.true))
 
 pub gather-requires : goal.gather-requires
 gather-requires c = ends (goal.at.gather-requires c).In-Some

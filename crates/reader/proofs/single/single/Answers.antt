@@ -1,32 +1,28 @@
 -- `single::single` meets its contract: type by type. Assumes nothing.
 use Rattle.tokens.specs.Token.{judged}
-use Rattle.tokens.proofs.Summaries.{part_length}
-use borrow.Author.Tests.{eq-eqb, ne_eqb}
+use borrow.Author.Tests.{ne_eqb}
 use native.Mathlib.Omega.{arith}
 use mathlib.Core.Path.{◌∙◌}
 use Rattle.reader.proofs.single.single.Goals as goal
 
-pub returns-then-k-eq1 : goal.returns-then-k-eq1
+pub returns-in-1 : goal.returns-in-1
 unfolding judged
-returns-then-k-eq1 c =
-    let a = c.args in c.string_read.ensures ∙ rw (c.all_obey.ensures, part_length a.s.now a.start a.len (omega arith), eq-eqb a.k 1 c.if-k-eq1.true)
+returns-in-1 c = c.ruled.ensures ∙ rw (c.in-1.is, c.all_obey.ensures)
 
-pub returns-then-k-eq2 : goal.returns-then-k-eq2
+pub returns-in-2 : goal.returns-in-2
 unfolding judged
-returns-then-k-eq2 c =
-    let a = c.args in c.integer_at.ensures ∙ rw (part_length a.s.now a.start a.len (omega arith), ne_eqb a.k 1 c.if-k-eq1.false, eq-eqb a.k 2 c.if-k-eq2.true)
+returns-in-2 c = c.integer_at.ensures ∙ rw c.in-2.is
 
-pub returns-then-k-eq4 : goal.returns-then-k-eq4
+pub returns-in-4 : goal.returns-in-4
 unfolding judged
-returns-then-k-eq4 c =
-    let a = c.args in c.rational_at.ensures ∙ rw (part_length a.s.now a.start a.len (omega arith), ne_eqb a.k 1 c.if-k-eq1.false, ne_eqb a.k 2 c.if-k-eq2.false, eq-eqb a.k 4 c.if-k-eq4.true)
+returns-in-4 c = c.rational_at.ensures ∙ rw c.in-4.is
 
-pub returns-then-k-eq5 : goal.returns-then-k-eq5
+pub returns-in-5 : goal.returns-in-5
 unfolding judged
-returns-then-k-eq5 c =
-    let a = c.args in c.identifier_read.ensures ∙ rw (c.is_name.ensures, part_length a.s.now a.start a.len (omega arith), ne_eqb a.k 1 c.if-k-eq1.false, ne_eqb a.k 2 c.if-k-eq2.false, ne_eqb a.k 4 c.if-k-eq4.false, eq-eqb a.k 5 c.if-k-eq5.true)
+returns-in-5 c = c.ruled-in-5.ensures ∙ rw (c.in-5.is, c.is_name.ensures)
 
-pub returns : goal.returns
+pub returns-in_default : goal.returns-in_default
 unfolding judged
-returns c =
-    let a = c.args in c.unruled.ensures ∙ rw (ne_eqb a.k 1 c.if-k-eq1.false, ne_eqb a.k 2 c.if-k-eq2.false, ne_eqb a.k 4 c.if-k-eq4.false, ne_eqb a.k 5 c.if-k-eq5.false)
+returns-in_default c =
+    let a = c.args in
+    c.unruled.ensures ∙ rw (ne_eqb a.k 1 (λ e. omega arith), ne_eqb a.k 2 (λ e. omega arith), ne_eqb a.k 4 (λ e. omega arith), ne_eqb a.k 5 (λ e. omega arith))

@@ -5,6 +5,8 @@ use Prim.Native.Nat.{ℕ, ◌+◌, ◌-◌}
 use lib.ListN.{length}
 use mathlib.Core.List.{[], ◌++◌}
 use lib.Seq.{slice}
+use Rattle.std.proofs.lemmas.List.Edits.{length-between}
+use Rattle.std.proofs.lemmas.Slice.{between_is}
 use Rattle.table.specs.Slots.{slots}
 use Rattle.tokens.proofs.Copying.{as_found, none_left, copied_end, piece_fits, copied_next}
 use Rattle.table.proofs.SlotLists.{room_back}
@@ -23,7 +25,12 @@ returns-in_default c =
 
 pub put_piece-requires : goal.put_piece-requires
 put_piece-requires c =
-    let w = piece_fits letters_show c.loop-at.invariant.3 c.requires (sym c.next_piece.ensures ∙ c.in-Some.is) in (room_back _ _ w.2, w.1)
+    let w = piece_fits letters_show c.loop-at.invariant.3 c.requires (sym c.next_piece.ensures ∙ c.in-Some.is) in
+    let f : ℕ = c.in-Some.piece.start in
+    omega (arith, room_back _ _ w.2, length-between c.args.b.now f (f + c.in-Some.piece.len) w.1)
+
+pub slice_bounds-put_piece-end : goal.slice_bounds-put_piece-end
+slice_bounds-put_piece-end c = (piece_fits letters_show c.loop-at.invariant.3 c.requires (sym c.next_piece.ensures ∙ c.in-Some.is)).1
 
 pub overflow_add-at : goal.overflow_add-at
 overflow_add-at c =
@@ -39,7 +46,10 @@ loop-at-smaller c =
 
 pub loop-at-preserved : goal.loop-at-preserved
 loop-at-preserved c =
-    let i = c.loop-at.invariant in let f : ℕ = c.in-Some.piece.start in (search rules, i.1 - 1, i.2 ++ slice f (f + c.in-Some.piece.len) c.args.b.now, copied_next letters_show i.3 c.requires (sym c.next_piece.ensures ∙ c.in-Some.is) (sets_long (slots c.loop-at.w) _ c.loop-at.q (letter_slots (slice f (f + c.in-Some.piece.len) c.args.b.now)) c.put_piece.ensures) c.put_piece.ensures)
+    let i = c.loop-at.invariant in
+    let f : ℕ = c.in-Some.piece.start in
+    let put = rw (between_is c.args.b.now f (f + c.in-Some.piece.len)) at c.put_piece.ensures in
+    (search rules, i.1 - 1, i.2 ++ slice f (f + c.in-Some.piece.len) c.args.b.now, copied_next letters_show i.3 c.requires (sym c.next_piece.ensures ∙ c.in-Some.is) (sets_long (slots c.loop-at.w) _ c.loop-at.q (letter_slots (slice f (f + c.in-Some.piece.len) c.args.b.now)) put) put)
 
 pub returns : goal.returns
 returns c =

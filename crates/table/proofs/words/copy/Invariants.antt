@@ -5,4 +5,4 @@ use lib.Seq.{sets, slice}
 use Rattle.table.proofs.words.copy.Given as goal
 
 abbrev pub invariant-loop-i : goal.invariant-loop-i
-invariant-loop-i l = (length l.out ≡ length l.initial.out) × (sets l.out (l.at + l.i) (slice (l.from + l.i) (l.from + l.len) l.x) ≡ sets l.initial.out l.at (slice l.from (l.from + l.len) l.x))
+invariant-loop-i l = (length l.out ≡ length l.initial.out) × (sets l.out (l.at + l.i) (slice l.i (length l.x) l.x) ≡ sets l.initial.out l.at l.x)
