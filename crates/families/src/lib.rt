@@ -1,123 +1,79 @@
-// Families of operators on ways of their own: their effect is made and done in line. All have one shape; one function over them all would
-// have the effect go through memory again (docs/DECISIONS.md, D73).
+// Operators without a body, by their family: one function over all of them, with what a family asks for most done in line (docs/DECISIONS.md,
+// D73). An operator with its body has a way of its own.
 #![tactic(auto)]
 
-mod arms; // the effects that a family asks for most
+mod kinds; // the families
 
-ghost use Rattle.std.specs.Prelude.{◌≡◌, ℕ, ◌+◌, ◌<◌};
+ghost use Rattle.std.specs.Prelude.{◌≡◌, ℕ, ◌+◌, ◌<◌, ◌≤◌};
 ghost use Rattle.machine.specs.declared.Literal.TheVariants.{Plain, WithBody};
-ghost use Rattle.machine.specs.declared.Op.TheVariants.{OnVectors, OnStack, Tests, Reckons};
-ghost use Rattle.machine.specs.Operators.{op_of};
+ghost use Rattle.machine.specs.declared.Op.{Op};
+ghost use Rattle.machine.specs.Operators.{op_of, arity_of, effect_of};
 ghost use Rattle.machine.specs.Step.{execute};
+ghost use Rattle.machine.specs.Engine.{affected};
+ghost use Rattle.operands.specs.Sizes.{Small, Sized};
 ghost use Rattle.names.specs.Names.{both};
 ghost use Rattle.state.specs.Layout.{Busy, Tried};
 ghost use Rattle.origins.specs.Bodies.{Short};
 
-use machine::{ArithOp, StackOp, TestOp, VectorOp};
+use machine::{Effect, Next, Value, Work};
 use state::Registers;
 
-// GET, MAKEVECLU, MAKEVEC, SHAPE
-pub fn on_vectors<'a>(
-    w: &mut [u8],
-    r: Registers,
-    pre: &'a [u8],
-    body: &'a [u8],
-    o: VectorOp,
-) -> Option<Registers>
-    requires { Busy w.old r × Short pre.now body.now }
-    ensures { (n : ℕ) → OnVectors o ≡ op_of n → Tried (execute (both pre.now body.now) (Plain n)) w.old r w.new result }
-{
-    let a = reckoning::vector::arity(o);
-    let t = state::stack::tops(w, r.height);
-    if a > t.count {
-        return None;
+// A family of operators without a body: what each pops, what it asks for, and how that is done.
+pub trait Family: Copy {
+    // The operator that it is.
+    ghost op: { Self → Op };
+
+    fn arity(self) -> usize
+        ensures { (result ≡ arity_of (op self)) × (result ≤ 2) };
+
+    fn effect(self, x: Value, y: Value) -> Option<Effect>
+        requires { Small x × Small y }
+        ensures { (result ≡ effect_of (op self) x y) × Sized result };
+
+    // What the family asks for most is done in line, where the effect need not go through memory: mostly a number.
+    fn affect<'a>(w: &mut [u8], r: Registers, pre: &'a [u8], body: &'a [u8], e: Option<Effect>) -> Option<Registers>
+        requires { Busy w.old r × Short pre.now body.now × Sized e }
+        ensures { Tried (affected (both pre.now body.now) e) w.old r w.new result }
+    {
+        match e {
+            Some(Effect::Gives(a)) => state::stack::push_number(w, r, a),
+            _ => effects::affect(w, r, pre, body, e),
+        }
     }
-    let x = state::values::value_of(t.first);
-    let y = state::values::value_of(t.second);
-    let e = reckoning::vector::effect(o, x, y);
-    let q = Registers {
-        height: r.height - a,
-        ..r
-    };
-    arms::affect_vector(w, q, pre, body, e)
 }
 
-// EQ, GT, GE, AND, OR, NOT, TYPE
-pub fn on_tests<'a>(
-    w: &mut [u8],
-    r: Registers,
-    pre: &'a [u8],
-    body: &'a [u8],
-    o: TestOp,
-) -> Option<Registers>
+// An operator without a body: the values that it pops must stand above the topmost mark.
+pub fn on<'a, F: Family>(w: &mut [u8], r: Registers, pre: &'a [u8], body: &'a [u8], o: F) -> Option<Registers>
     requires { Busy w.old r × Short pre.now body.now }
-    ensures { (n : ℕ) → Tests o ≡ op_of n → Tried (execute (both pre.now body.now) (Plain n)) w.old r w.new result }
+    ensures { (n : ℕ) → F.op o ≡ op_of n → Tried (execute (both pre.now body.now) (Plain n)) w.old r w.new result }
 {
-    let a = operators::test::arity(o);
+    let a = o.arity();
     let t = state::stack::tops(w, r.height);
     if a > t.count {
         return None;
     }
     let x = state::values::value_of(t.first);
     let y = state::values::value_of(t.second);
-    let e = operators::test::effect(o, x, y);
+    let e = o.effect(x, y);
     let q = Registers {
         height: r.height - a,
         ..r
     };
-    arms::affect_number(w, q, pre, body, e)
+    F::affect(w, q, pre, body, e)
 }
 
-// The arithmetic of 2.4.9
-pub fn on_numbers<'a>(
-    w: &mut [u8],
-    r: Registers,
-    pre: &'a [u8],
-    body: &'a [u8],
-    o: ArithOp,
-) -> Option<Registers>
-    requires { Busy w.old r × Short pre.now body.now }
-    ensures { (n : ℕ) → Reckons o ≡ op_of n → Tried (execute (both pre.now body.now) (Plain n)) w.old r w.new result }
+// An operator that holds a body: it is entered, or passed over.
+fn affect_body<'a>(w: &mut [u8], r: Registers, pre: &'a [u8], body: &'a [u8], e: Option<Effect>) -> Option<Registers>
+    requires { Busy w.old r × Short pre.now body.now × Sized e }
+    ensures { Tried (affected (both pre.now body.now) e) w.old r w.new result }
 {
-    let a = reckoning::arith::arity(o);
-    let t = state::stack::tops(w, r.height);
-    if a > t.count {
-        return None;
+    match e {
+        Some(Effect::Acts(Next::Inline { start, len, owes })) => effects::inline(
+            w, r, pre, body, start, len, owes,
+        ),
+        Some(Effect::Acts(Next::Works(Work::Nothing))) => Some(r),
+        _ => effects::affect(w, r, pre, body, e),
     }
-    let x = state::values::value_of(t.first);
-    let y = state::values::value_of(t.second);
-    let e = reckoning::arith::effect(o, x, y);
-    let q = Registers {
-        height: r.height - a,
-        ..r
-    };
-    arms::affect_number(w, q, pre, body, e)
-}
-
-// 2.4.6: POP and NOP before a comment, and the rarer ones
-pub fn on_stack<'a>(
-    w: &mut [u8],
-    r: Registers,
-    pre: &'a [u8],
-    body: &'a [u8],
-    o: StackOp,
-) -> Option<Registers>
-    requires { Busy w.old r × Short pre.now body.now }
-    ensures { (n : ℕ) → OnStack o ≡ op_of n → Tried (execute (both pre.now body.now) (Plain n)) w.old r w.new result }
-{
-    let a = operators::stack::arity(o);
-    let t = state::stack::tops(w, r.height);
-    if a > t.count {
-        return None;
-    }
-    let x = state::values::value_of(t.first);
-    let y = state::values::value_of(t.second);
-    let e = operators::stack::effect(o, x, y);
-    let q = Registers {
-        height: r.height - a,
-        ..r
-    };
-    arms::affect_stack(w, q, pre, body, e)
 }
 
 // An operator with its body.
@@ -145,5 +101,5 @@ pub fn holder<'a>(
         height: r.height - a,
         ..r
     };
-    arms::affect_body(w, q, pre, body, e)
+    affect_body(w, q, pre, body, e)
 }

@@ -1,11 +1,11 @@
--- `arms::affect_vector` meets its contract. Assumes nothing.
+-- `affect` of `VectorOp` meets its contract. Assumes nothing.
 use mathlib.Core.Path.{◌≡◌, ap, ◌∙◌}
 use Rattle.std.specs.Prelude.{Some}
 use Rattle.machine.specs.declared.Effect.TheVariants.{Gives2, Acts}
 use Rattle.machine.specs.declared.Next.TheVariants.{Works}
 use Rattle.machine.specs.declared.Work.TheVariants.{Element, Build}
 use Rattle.effects.proofs.Acting.{is_gives2, is_acts, by_works, at_element, at_build}
-use Rattle.families.proofs.arms.affect_vector.Goals as goal
+use Rattle.families.proofs.kinds.VectorOpFamily.affect.Goals as goal
 
 pub returns-in-Some-Gives2 : goal.returns-in-Some-Gives2
 returns-in-Some-Gives2 c =

@@ -1,11 +1,11 @@
--- `arms::affect_stack` meets its contract. Assumes nothing.
+-- `affect` of `StackOp` meets its contract. Assumes nothing.
 use mathlib.Core.Path.{◌≡◌, ap, ◌∙◌, refl}
 use Rattle.std.specs.Prelude.{Some}
 use Rattle.machine.specs.declared.Effect.TheVariants.{Acts}
 use Rattle.machine.specs.declared.Next.TheVariants.{Works}
 use Rattle.machine.specs.declared.Work.TheVariants.{Nothing}
 use Rattle.effects.proofs.Acting.{is_acts, by_works, nothing_done}
-use Rattle.families.proofs.arms.affect_stack.Goals as goal
+use Rattle.families.proofs.kinds.StackOpFamily.affect.Goals as goal
 
 pub returns-in-Some-Acts-Works-Nothing : goal.returns-in-Some-Acts-Works-Nothing
 returns-in-Some-Acts-Works-Nothing c =

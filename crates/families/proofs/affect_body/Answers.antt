@@ -1,11 +1,11 @@
--- `arms::affect_body` meets its contract. Assumes nothing.
+-- `affect_body` meets its contract. Assumes nothing.
 use mathlib.Core.Path.{◌≡◌, ap, ◌∙◌, refl}
 use Rattle.std.specs.Prelude.{Some}
 use Rattle.machine.specs.declared.Effect.TheVariants.{Acts}
 use Rattle.machine.specs.declared.Next.TheVariants.{Works, Inline}
 use Rattle.machine.specs.declared.Work.TheVariants.{Nothing}
 use Rattle.effects.proofs.Acting.{is_acts, by_inline, by_works, nothing_done}
-use Rattle.families.proofs.arms.affect_body.Goals as goal
+use Rattle.families.proofs.affect_body.Goals as goal
 
 pub returns-in-Some-Acts-Inline : goal.returns-in-Some-Acts-Inline
 returns-in-Some-Acts-Inline c =
