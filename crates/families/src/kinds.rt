@@ -4,7 +4,7 @@
 ghost use Rattle.machine.specs.declared.Op.TheVariants.{OnVectors, OnStack, Tests, Reckons};
 
 use crate::Family;
-use machine::{ArithOp, Effect, Next, StackOp, TestOp, Value, VectorOp, Work};
+use machine::{ArithOp, Effect, Next, Op, StackOp, TestOp, Value, VectorOp, Work};
 use state::Registers;
 
 // GET, MAKEVECLU, MAKEVEC, SHAPE: two numbers, an element, a new vector
@@ -81,5 +81,22 @@ impl Family for StackOp {
             Some(Effect::Acts(Next::Works(Work::Nothing))) => Some(r),
             _ => effects::affect(w, r, pre, body, e),
         }
+    }
+}
+
+// Any operator: all that it may ask for
+impl Family for Op {
+    ghost op = { λ o. o };
+
+    fn arity(self) -> usize {
+        operators::arity_of(self)
+    }
+
+    fn effect(self, x: Value, y: Value) -> Option<Effect> {
+        operators::effect_of(self, x, y)
+    }
+
+    fn affect<'a>(w: &mut [u8], r: Registers, pre: &'a [u8], body: &'a [u8], e: Option<Effect>) -> Option<Registers> {
+        effects::affect(w, r, pre, body, e)
     }
 }
