@@ -19,7 +19,13 @@ impl Family for VectorOp {
         reckoning::vector::effect(self, x, y)
     }
 
-    fn affect<'a>(w: &mut [u8], r: Registers, pre: &'a [u8], body: &'a [u8], e: Option<Effect>) -> Option<Registers> {
+    fn affect<'a>(
+        w: &mut [u8],
+        r: Registers,
+        pre: &'a [u8],
+        body: &'a [u8],
+        e: Option<Effect>,
+    ) -> Option<Registers> {
         match e {
             Some(Effect::Gives2(a, b)) => state::stack::push_two(w, r, a, b),
             Some(Effect::Acts(Next::Works(Work::Element { cell }))) => store::cells::element(
@@ -76,7 +82,13 @@ impl Family for StackOp {
         operators::stack::effect(self, x, y)
     }
 
-    fn affect<'a>(w: &mut [u8], r: Registers, pre: &'a [u8], body: &'a [u8], e: Option<Effect>) -> Option<Registers> {
+    fn affect<'a>(
+        w: &mut [u8],
+        r: Registers,
+        pre: &'a [u8],
+        body: &'a [u8],
+        e: Option<Effect>,
+    ) -> Option<Registers> {
         match e {
             Some(Effect::Acts(Next::Works(Work::Nothing))) => Some(r),
             _ => effects::affect(w, r, pre, body, e),
@@ -84,7 +96,7 @@ impl Family for StackOp {
     }
 }
 
-// Any operator: all that it may ask for
+// Any operator, with none of it done in line
 impl Family for Op {
     ghost op = { λ o. o };
 
@@ -96,7 +108,13 @@ impl Family for Op {
         operators::effect_of(self, x, y)
     }
 
-    fn affect<'a>(w: &mut [u8], r: Registers, pre: &'a [u8], body: &'a [u8], e: Option<Effect>) -> Option<Registers> {
+    fn affect<'a>(
+        w: &mut [u8],
+        r: Registers,
+        pre: &'a [u8],
+        body: &'a [u8],
+        e: Option<Effect>,
+    ) -> Option<Registers> {
         effects::affect(w, r, pre, body, e)
     }
 }

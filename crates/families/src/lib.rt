@@ -31,7 +31,13 @@ pub trait Family: Copy {
         ensures { (result ≡ effect_of (op self) x y) × Sized result };
 
     // What the family asks for most is done in line, where the effect need not go through memory: mostly a number.
-    fn affect<'a>(w: &mut [u8], r: Registers, pre: &'a [u8], body: &'a [u8], e: Option<Effect>) -> Option<Registers>
+    fn affect<'a>(
+        w: &mut [u8],
+        r: Registers,
+        pre: &'a [u8],
+        body: &'a [u8],
+        e: Option<Effect>,
+    ) -> Option<Registers>
         requires { Busy w.old r × Short pre.now body.now × Sized e }
         ensures { Tried (affected (both pre.now body.now) e) w.old r w.new result }
     {
@@ -43,7 +49,13 @@ pub trait Family: Copy {
 }
 
 // An operator without a body: the values that it pops must stand above the topmost mark.
-pub fn on<'a, F: Family>(w: &mut [u8], r: Registers, pre: &'a [u8], body: &'a [u8], o: F) -> Option<Registers>
+pub fn on<'a, F: Family>(
+    w: &mut [u8],
+    r: Registers,
+    pre: &'a [u8],
+    body: &'a [u8],
+    o: F,
+) -> Option<Registers>
     requires { Busy w.old r × Short pre.now body.now }
     ensures { (n : ℕ) → F.op o ≡ op_of n → Tried (execute (both pre.now body.now) (Plain n)) w.old r w.new result }
 {
@@ -63,7 +75,13 @@ pub fn on<'a, F: Family>(w: &mut [u8], r: Registers, pre: &'a [u8], body: &'a [u
 }
 
 // An operator that holds a body: it is entered, or passed over.
-fn affect_body<'a>(w: &mut [u8], r: Registers, pre: &'a [u8], body: &'a [u8], e: Option<Effect>) -> Option<Registers>
+fn affect_body<'a>(
+    w: &mut [u8],
+    r: Registers,
+    pre: &'a [u8],
+    body: &'a [u8],
+    e: Option<Effect>,
+) -> Option<Registers>
     requires { Busy w.old r × Short pre.now body.now × Sized e }
     ensures { Tried (affected (both pre.now body.now) e) w.old r w.new result }
 {
@@ -76,7 +94,7 @@ fn affect_body<'a>(w: &mut [u8], r: Registers, pre: &'a [u8], body: &'a [u8], e:
     }
 }
 
-// An operator with its body.
+// An operator with its body. As a family it would be no shorter: its effect takes where the body stands, and one value alone.
 pub fn holder<'a>(
     w: &mut [u8],
     r: Registers,

@@ -4,9 +4,7 @@ use Rattle.std.specs.Prelude.{Some, None}
 use Prim.Native.Nat.{ℕ, ◌+◌, ◌≤◌, ◌<◌}
 use native.Mathlib.Omega.{arith}
 use mathlib.Core.Path.{◌≡◌, ◌∙◌}
-use mathlib.Core.Bool.{true, false}
 use mathlib.Core.List.{List}
-use mathlib.Core.Option.{Option}
 use borrow.Author.Tests.{le-leb}
 use lib.ListN.{length}
 use Rattle.table.specs.Slots.{slots}
@@ -24,7 +22,7 @@ use Rattle.literals.specs.Dues.{Is, LiteralThere}
 use Rattle.names.specs.Names.{both}
 use Rattle.state.specs.declared.Place.{Place}
 use Rattle.state.specs.declared.Registers.{Registers}
-use Rattle.state.specs.Layout.{stack_of, contexts_of, abs, Busy, Done, Perhaps, Tried, Good}
+use Rattle.state.specs.Layout.{stack_of, contexts_of, abs, Done, Perhaps, Tried, Good}
 use Rattle.state.proofs.Cutting.{over_above}
 use Rattle.state.proofs.Trying.{tried_as}
 use Rattle.machine.proofs.Legible.{Legible, going_on, going_literal}
@@ -52,17 +50,11 @@ sized_holder x n s l h e = rw e at h
 
 -- ---- the same registers
 
-pub tried_same : {f : State → Option State} {w w' : List ℕ} {r r₁ : Registers} {q : Perhaps} → r₁ ≡ r → Tried f w r₁ w' q → Tried f w r w' q
-tried_same e t = rw (← e) t
-
 pub done_same : {f : State → State} {w w' : List ℕ} {r q q₁ : Registers} → q ≡ q₁ → Done f w r w' q₁ → Done f w r w' q
 done_same i d = rw i d
 
 pub stepped_same : {pre body w w' : List ℕ} {r r₁ q q₁ : Registers} → r₁ ≡ r → q ≡ q₁ → Stepped pre body w r₁ w' q₁ → Stepped pre body w r w' q
 stepped_same e i t = rw (← e, i) t
-
-pub busy_same : {w : List ℕ} {r r₁ : Registers} → r₁ ≡ r → Busy w r → Busy w r₁
-busy_same e g = rw e g
 
 -- ---- the literal that is due
 

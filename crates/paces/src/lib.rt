@@ -17,27 +17,6 @@ ghost use Rattle.paces.specs.Paces.{SizedLiteral, Stepped};
 use machine::{Literal, Op};
 use state::{Registers, afresh};
 
-// An operator without a body: the values that it pops must stand above the topmost mark.
-fn plain<'a>(w: &mut [u8], r: Registers, pre: &'a [u8], body: &'a [u8], n: u16) -> Option<Registers>
-    requires { Busy w.old r × Short pre.now body.now }
-    ensures { Tried (execute (both pre.now body.now) (Plain n)) w.old r w.new result }
-{
-    let o = numbering::op_of(n);
-    let a = operators::arity_of(o);
-    let t = state::stack::tops(w, r.height);
-    if a > t.count {
-        return None;
-    }
-    let x = state::values::value_of(t.first);
-    let y = state::values::value_of(t.second);
-    let e = operators::effect_of(o, x, y);
-    let q = Registers {
-        height: r.height - a,
-        ..r
-    };
-    effects::affect(w, q, pre, body, e)
-}
-
 fn execute<'a>(
     w: &mut [u8],
     r: Registers,
@@ -52,14 +31,14 @@ fn execute<'a>(
         Literal::Figure(a) => state::stack::push_number(w, r, a),
         Literal::Name { start, len } => state::stack::push_name(w, r, start, len),
         Literal::Text { start } => effects::spell(w, r, pre, body, table::words::size(start)),
-        Literal::Plain { number } => plain(w, r, pre, body, number),
+        Literal::Plain { number } => families::on(w, r, pre, body, numbering::op_of(number)),
         Literal::WithBody { number, start, len } => families::holder(
             w, r, pre, body, number, start, len,
         ),
     }
 }
 
-// An operator without a body, those of four families in line (DECISIONS, D73), and UNMARK0.
+// An operator without a body, by its family (DECISIONS, D73), and UNMARK0.
 fn operator<'a>(
     w: &mut [u8],
     r: Registers,
@@ -73,11 +52,11 @@ fn operator<'a>(
     match n {
         192 => marks::remove(w, r, 0),
         _ => match numbering::op_of(n) {
-            Op::OnVectors(k) => families::on_vectors(w, afresh(r), pre, body, k),
-            Op::Tests(k) => families::on_tests(w, afresh(r), pre, body, k),
-            Op::OnStack(k) => families::on_stack(w, afresh(r), pre, body, k),
-            Op::Reckons(k) => families::on_numbers(w, afresh(r), pre, body, k),
-            _ => plain(w, afresh(r), pre, body, n),
+            Op::OnVectors(k) => families::on(w, afresh(r), pre, body, k),
+            Op::Tests(k) => families::on(w, afresh(r), pre, body, k),
+            Op::OnStack(k) => families::on(w, afresh(r), pre, body, k),
+            Op::Reckons(k) => families::on(w, afresh(r), pre, body, k),
+            o => families::on(w, afresh(r), pre, body, o),
         },
     }
 }
