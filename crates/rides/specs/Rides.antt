@@ -1,5 +1,5 @@
 -- A row of literals and the step that ends it. In order: a body gone on in; a step; several; a body passed over. Assumes nothing.
-use Rattle.std.specs.Prelude.{Ok, ⊤, ℕ, ◌+◌, ◌-◌, ◌≤◌, ◌<◌, ◌≡◌, true, false, List, [], ◌∷◌}
+use Rattle.std.specs.Prelude.{Ok, ⊤, ℕ, ◌+◌, ◌-◌, ◌≤◌, ◌<◌, ◌≡◌, false, List, [], ◌∷◌}
 use types.Run.{OneOf}
 use Rattle.machine.specs.declared.Literal.{Literal}
 use Rattle.machine.specs.Limits.{most_open}

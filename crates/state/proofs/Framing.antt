@@ -1,6 +1,5 @@
 -- The running frame and the cells read, FSET, and a frame of zeros. Assumes nothing.
 use mathlib.Core.Path.{◌≡◌, refl, ap, ap₂, sym, ◌∙◌}
-use mathlib.Core.Bool.{true}
 use mathlib.Core.Option.{Option}
 use lib.Dec.{leb}
 use mathlib.Core.Logic.{inl, inr, ◌≢◌}

@@ -2,7 +2,7 @@
 -- frame of context i, once it has been stored to; the cells from 728 on; context i in the slot 1752 + i; from 1764 on a frame kept aside;
 -- from 1814 on room for 128 entries on their way. The table is read totally: whatever words stand in it, they are a state. In order: a
 -- value in a slot; the parts; the state; what holds of it; what an operation promises. Assumes nothing.
-use Rattle.std.specs.Prelude.{◌≡◌, Bool, true, false, Option as Maybe, Some, None, IfSome, cond, ◌&&◌, List, [], ◌∷◌, map, ℕ, zero, suc, ◌+◌, ◌-◌, ◌*◌, ◌%◌, ◌≤◌, ◌<◌, eqb, leb, length, get_or, set, take}
+use Rattle.std.specs.Prelude.{◌≡◌, true, false, Option as Maybe, Some, None, IfSome, cond, ◌&&◌, List, [], ◌∷◌, map, ℕ, zero, suc, ◌+◌, ◌-◌, ◌*◌, ◌%◌, ◌≤◌, ◌<◌, eqb, leb, length, get_or, set, take}
 use Rattle.std.proofs.Math.Option.{Option, none, some}
 use Rattle.std.specs.Int.{w32}
 use Rattle.std.proofs.Common.{to_z}

@@ -1,5 +1,5 @@
 use Rattle.state.specs.Layout.{goes_to}
-use mathlib.Core.Path.{refl, ap, ◌∙◌}
+use mathlib.Core.Path.{ap, ◌∙◌}
 use Rattle.sprints.proofs.Rows.{place_fits}
 use Rattle.rides.proofs.Riding.{good_there, alights_on, alights}
 use Rattle.rides.proofs.alight.Goals as goal

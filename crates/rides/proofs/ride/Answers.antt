@@ -3,12 +3,10 @@ use Rattle.machine.proofs.Inside.{solid_past}
 use Rattle.rides.proofs.Holding.{over_role, if_role}
 use Rattle.literals.proofs.Finding.{body_fits}
 use Rattle.literals.proofs.Standing.{stands_ends, ends_solid}
-use Rattle.state.proofs.Ending.{not_on}
 use Rattle.sprints.proofs.Rows.{place_fits}
 use Rattle.origins.proofs.ByOrigin.{bytes_short}
 use Rattle.names.specs.Names.{both}
 use Rattle.machine.specs.Literal.{bytes_of}
-use mathlib.Core.Bool.{true, false}
 use mathlib.Core.Path.{refl, sym, ap, ◌∙◌}
 use native.Mathlib.Omega.{arith}
 use Rattle.rides.proofs.ride.Goals as goal

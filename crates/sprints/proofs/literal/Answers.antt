@@ -1,7 +1,7 @@
 -- `literal` meets its contract. Assumes nothing.
 use mathlib.Core.Path.{refl}
 use mathlib.Core.List.{[]}
-use Rattle.sprints.proofs.Rows.{strides_none, strides_of, strides_higher, number_none, operator_none}
+use Rattle.sprints.proofs.Rows.{strides_of, strides_higher, number_none, operator_none}
 use Rattle.sprints.proofs.Swiftly.{figure_flat, by_figure, number_inside, found_number}
 use Rattle.sprints.proofs.Level.{flat_of}
 use Rattle.nesting.proofs.BodyTurns.{operator_shown, operator_ends}
