@@ -73,7 +73,7 @@ pub overflow_add-piece : goal.overflow_add-piece
 overflow_add-piece c = omega (arith, (part (goal.at.overflow_add-piece c).In-Some).1, c.well_formed)
 
 pub slice_bounds-take_piece-end-in-loop-at : goal.slice_bounds-take_piece-end-in-loop-at
-slice_bounds-take_piece-end-in-loop-at c = (part (goal.at.slice_bounds-take_piece-end-in-loop-at c).In-Some).1
+slice_bounds-take_piece-end-in-loop-at c = omega (arith, (part (goal.at.slice_bounds-take_piece-end-in-loop-at c).In-Some).1)
 
 pub overflow_add-at-in-loop-at : goal.overflow_add-at-in-loop-at
 overflow_add-at-in-loop-at c =
