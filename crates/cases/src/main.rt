@@ -140,10 +140,19 @@ impl<'a> Case<'a> {
     }
 }
 
-// What follows a run in a table that begins with it. A run is how many times, then the bytes that come so often.
+// What follows a run in a table that begins with it. A run is how many times, then the bytes that come so often: it begins with these bytes, and
+// what follows them is how it begins. Each time by itself takes longer, since most runs are of one byte.
 fn strip_run<'a>(table: &'a [u8], run: &[u8]) -> Option<&'a [u8]> {
     let (times, bytes) = run.split_first_chunk()?;
-    (0..u32::from_le_bytes(*times)).try_fold(table, |rest, _| rest.strip_prefix(bytes))
+    let len = (u32::from_le_bytes(*times) as usize).checked_mul(bytes.len())?;
+    let (front, rest) = table.split_at_checked(len)?;
+    if !front.is_empty() {
+        let after = front.strip_prefix(bytes)?;
+        if !front.starts_with(after) {
+            return None;
+        }
+    }
+    Some(rest)
 }
 
 // The table is the runs, one after another, and then as lent.

@@ -256,7 +256,8 @@ fn put_all(list: &[u8], text: &[u8], out: &mut [u8])
 {
     table::words::copy(out, 0, b"Interpress/Xerox/3.0 ");
     let mut o: usize = 21;
-    for at in (0..list.len()).step_by(16) {
+    let end = list.len();
+    for at in (0..end).step_by(16) {
         let item = item_at(list, text, at).unwrap();
         o = put_item(out, o, text, item);
     }

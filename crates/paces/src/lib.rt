@@ -133,6 +133,9 @@ pub fn pace<'a>(
     let s = contexts::bodies::begin(w, r, table::words::word(x.next));
     match operator(w, s, pre, body, x.number) {
         Some(p) => afresh(recovery::ends::settle(w, p)),
-        None => afresh(recovery::ends::fault(w, state::counted(r))),
+        None => {
+            let q = state::counted(r);
+            afresh(recovery::ends::fault(w, q))
+        }
     }
 }

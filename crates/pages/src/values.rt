@@ -32,6 +32,30 @@ impl From<u32> for Kind {
     }
 }
 
+// A continued sequence stands at a place.
+fn continues(body: &[u8], at: usize) -> bool {
+    points::left_at(body, at) != 0 && sequences::is_continued(body[at])
+}
+
+// The most bytes of a name that are put at a time: each by itself takes twice as long.
+const RUN: usize = 64;
+
+// Bytes of a name, in lower case.
+fn write_lower<W: fmt::Write>(f: &mut fmt::Formatter<W>, bytes: &[u8]) -> fmt::Result {
+    let mut lower = [0u8; RUN];
+    for part in bytes.chunks(RUN) {
+        let len = part.len().min(RUN);
+        let run = &mut lower[..len];
+        run.copy_from_slice(&part[..len]);
+        run.make_ascii_lowercase();
+        let Ok(text) = str::from_utf8(run) else {
+            return Err(fmt::Error);
+        };
+        f.write_str(text)?;
+    }
+    Ok(())
+}
+
 // The text of the identifier token at `start`, with all that continues it, in lower case. It has letters, digits and `-`: a token
 // with another byte was refused.
 #[derive(Clone, Copy)]
@@ -48,10 +72,8 @@ impl fmt::Display for Name<'_> {
                 break;
             };
             let end = piece.start + piece.len;
-            for b in &self.body[piece.start..end] {
-                f.write_char(char::from(b.to_ascii_lowercase()))?;
-            }
-            if !sequences::is_continued_at(self.body, end) {
+            write_lower(f, &self.body[piece.start..end])?;
+            if !continues(self.body, end) {
                 break;
             }
             at = end;

@@ -25,8 +25,10 @@ pub fn sequence_at(s: &[u8], at: usize) -> Result<Read, Refused>
     if !is_continued_at(s, next) {
         return single(k, at, &s[piece.start..next], next);
     }
-    let whole = gather(k, s, piece)?;
-    judge(k, at, whole.sum, whole.next)
+    match gather(k, s, piece) {
+        Ok(whole) => judge(k, at, whole.sum, whole.next),
+        Err(refused) => Err(Refusal::CutOff.met_at(refused.place)),
+    }
 }
 
 // A short number: 15 bits less 4000.

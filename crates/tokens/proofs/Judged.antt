@@ -2,7 +2,7 @@
 use Rattle.std.specs.Prelude.{Ok, Err}
 use Rattle.tokens.specs.Refusal.{refusal_at}
 use Rattle.tokens.specs.Inner.{gathered}
-use mathlib.Core.Path.{◌≡◌, ap, ◌∙◌}
+use mathlib.Core.Path.{◌≡◌, sym, ap, ◌∙◌}
 use mathlib.Core.List.{List}
 use Prim.Native.Nat.{ℕ, ◌+◌, ◌/◌, ◌≤◌}
 use native.Mathlib.Omega.{arith}
@@ -13,7 +13,7 @@ use lib.Seq.{take_all}
 use borrow.Author.Tests.{eqb-true}
 use Rattle.numbers.specs.Fraction.{ratio_of}
 use Rattle.tokens.specs.declared.Gathered.{Gathered}
-use Rattle.tokens.specs.declared.Refusal.TheVariants.{BadData}
+use Rattle.tokens.specs.declared.Refusal.TheVariants.{CutOff, BadData}
 use Rattle.tokens.specs.declared.Refused.{Refused}
 use Rattle.tokens.specs.declared.Summary.{Summary}
 use Rattle.tokens.specs.Bytes.{value_after, signed_of}
@@ -75,3 +75,11 @@ pub sequence_broken : (k at : ℕ) (J : Joined) (w : Refused) → gathered_of k 
 unfolding gathered_of sequence
 sequence_broken k at (whole d n) w e = cc
 sequence_broken k at (cut_at p) w e = cc
+
+-- what is broken is cut off, at the place that the refusal has
+pub sequence_cut : (k at : ℕ) (J : Joined) (w : Refused) → gathered_of k J ≡ Err w → Err (refusal_at CutOff w.place) ≡ sequence k at J
+unfolding gathered_of sequence
+sequence_cut k at (whole d n) w e = cc
+sequence_cut k at (cut_at p) w e =
+    let f : refusal_at CutOff p ≡ w = cc in
+    ap (λ (v : Refused). Err (refusal_at CutOff v.place)) (sym f)

@@ -23,8 +23,8 @@ returns-in-Some-operator c =
     (pace_settles _ _ (attempted (ready_now _ _ _ c.running-c.result _ c.requires.0 c.requires.1 c.requires.2 c.requires.3 c.running-c.ensures c.bytes_of-b.ensures c.size.ensures.0) _ _ c.word.ensures c.begin-s.ensures _ c.in-Some.ensures.there c.operator.ensures) c.in-Some-operator.is (done_same c.afresh-in-Some-operator.ensures c.settle.ensures), c.requires.5)
 
 pub fault-requires : goal.fault-requires
-fault-requires c = faults _ c.begin-s.ensures c.operator.ensures c.in-None.is c.counted.ensures
+fault-requires c = faults _ c.begin-s.ensures c.operator.ensures c.in-None.is c.counted-q.ensures
 
 pub returns-in-None : goal.returns-in-None
 returns-in-None c =
-    (pace_faults _ _ (attempted (ready_now _ _ _ c.running-c.result _ c.requires.0 c.requires.1 c.requires.2 c.requires.3 c.running-c.ensures c.bytes_of-b.ensures c.size.ensures.0) _ _ c.word.ensures c.begin-s.ensures _ c.in-Some.ensures.there c.operator.ensures) c.in-None.is c.counted.ensures (done_same c.afresh-in-None.ensures c.fault.ensures), c.requires.5)
+    (pace_faults _ _ (attempted (ready_now _ _ _ c.running-c.result _ c.requires.0 c.requires.1 c.requires.2 c.requires.3 c.running-c.ensures c.bytes_of-b.ensures c.size.ensures.0) _ _ c.word.ensures c.begin-s.ensures _ c.in-Some.ensures.there c.operator.ensures) c.in-None.is c.counted-q.ensures (done_same c.afresh-in-None.ensures c.fault.ensures), c.requires.5)

@@ -3,7 +3,7 @@ use Rattle.std.specs.Prelude.{Ok, Err, Some}
 use Rattle.tokens.specs.Joined.{piece_from}
 use Rattle.tokens.specs.Inner.{gathered}
 use Rattle.tokens.proofs.Ends.{joined_bytes}
-use Rattle.tokens.proofs.Judged.{sequence_whole, sequence_broken}
+use Rattle.tokens.proofs.Judged.{sequence_whole, sequence_cut}
 use Rattle.tokens.proofs.OnePiece.{sequence_one}
 use Rattle.tokens.proofs.Pieces.{Inside, inside, joined_data, joined_missing}
 use Rattle.table.proofs.WordLists.{Bytes}
@@ -16,7 +16,6 @@ use lib.Seq.{slice}
 use Rattle.std.proofs.lemmas.Slice.{between_is}
 use native.Mathlib.Omega.{arith}
 use mathlib.Core.Path.{◌≡◌, sym, ap, ◌∙◌}
-use Rattle.std.proofs.lemmas.Result.{err_from_is_err_and}
 use Rattle.reader.proofs.reading.sequence_at.Goals as goal
 use Rattle.reader.proofs.reading.sequence_at.Goals.{In-Some}
 
@@ -54,22 +53,21 @@ returns-then-not-is_continued_at c =
 pub gather-requires : goal.gather-requires
 gather-requires c = ends (goal.at.gather-requires c).In-Some
 
-pub returns-in_err-whole : goal.returns-in_err-whole
-returns-in_err-whole c =
+pub returns-in-Err : goal.returns-in-Err
+returns-in-Err c =
     let a = c.args in
     let k : ℕ = get_or a.s.now a.at 0 % 32 in
-    let j = joined_data a.s.now a.at _ _ (data_is (goal.at.returns-in_err-whole c).In-Some) in
-    let p = err_from_is_err_and c.from_residual.result c.from_residual.ensures.1 in
-    rw (p.1, p.2) (sequence_broken k a.at (joined_at a.s.now a.at) _ (rw (j, ← c.low5-k.ensures) (sym c.gather.ensures.0 ∙ c.in_err-whole.was)))
+    let j = joined_data a.s.now a.at _ _ (data_is (goal.at.returns-in-Err c).In-Some) in
+    ap Err c.met_at-in-Err.ensures ∙ sequence_cut k a.at (joined_at a.s.now a.at) c.in-Err.refused (rw (j, ← c.low5-k.ensures) (sym c.gather.ensures.0 ∙ c.in-Err.is))
 
 pub judge-requires : goal.judge-requires
-judge-requires c = rw c.in_ok-whole.was at c.gather.ensures.1
+judge-requires c = rw c.in-Ok.is at c.gather.ensures.1
 
-pub returns : goal.returns
-returns c =
+pub returns-in-Ok : goal.returns-in-Ok
+returns-in-Ok c =
     let a = c.args in
     let k : ℕ = get_or a.s.now a.at 0 % 32 in
-    let j = joined_data a.s.now a.at _ _ (data_is (goal.at.returns c).In-Some) in
-    let g : gathered_of k (joined_at a.s.now a.at) ≡ Ok (gathered c.in_ok-whole.whole.sum c.in_ok-whole.whole.next) = rw (j, ← c.low5-k.ensures) (sym c.gather.ensures.0 ∙ c.in_ok-whole.was) in
+    let j = joined_data a.s.now a.at _ _ (data_is (goal.at.returns-in-Ok c).In-Some) in
+    let g : gathered_of k (joined_at a.s.now a.at) ≡ Ok (gathered c.in-Ok.whole.sum c.in-Ok.whole.next) = rw (j, ← c.low5-k.ensures) (sym c.gather.ensures.0 ∙ c.in-Ok.is) in
     let s : Bytes a.s.now = (λ i. omega (arith, c.type_inv.s i)) in
-    c.judge.ensures ∙ ap (λ (t : ℕ). judged_by t a.at c.in_ok-whole.whole.sum c.in_ok-whole.whole.next) c.low5-k.ensures ∙ sequence_whole k a.at (joined_at a.s.now a.at) _ _ (joined_bytes a.s.now a.at s) g
+    c.judge.ensures ∙ ap (λ (t : ℕ). judged_by t a.at c.in-Ok.whole.sum c.in-Ok.whole.next) c.low5-k.ensures ∙ sequence_whole k a.at (joined_at a.s.now a.at) _ _ (joined_bytes a.s.now a.at s) g

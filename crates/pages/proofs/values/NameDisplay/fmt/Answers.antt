@@ -20,8 +20,8 @@ loop-at-smaller g c =
     let w = piece_in c.args.self.now.body.now c.loop-at.at c.piece_at.ensures c.in-Some.is in
     omega (arith, w.0, w.1)
 
-pub slice_bounds-b-items-end : goal.slice_bounds-b-items-end
-slice_bounds-b-items-end g c =
+pub slice_bounds-write_lower-end : goal.slice_bounds-write_lower-end
+slice_bounds-write_lower-end g c =
     let w = piece_in c.args.self.now.body.now c.loop-at.at c.piece_at.ensures c.in-Some.is in
     let fits : c.in-Some.piece.start + c.in-Some.piece.len ≤ length c.args.self.now.body.now = w.1 in
     search rules
