@@ -3,7 +3,7 @@
 use Rattle.std.specs.Prelude.{Some, None}
 use Prim.Native.Nat.{ℕ, ◌+◌, ◌≤◌, ◌<◌}
 use native.Mathlib.Omega.{arith}
-use mathlib.Core.Path.{◌≡◌, ◌∙◌}
+use mathlib.Core.Path.{◌≡◌, ◌∙◌, ap}
 use mathlib.Core.List.{List}
 use borrow.Author.Tests.{le-leb}
 use lib.ListN.{length}
@@ -79,6 +79,10 @@ sized_due b at d h i = rw i.literal (sized (found_at b at).literal (length b) (o
     sized (WithBody m s z) n l k = omega arith
 
 -- ---- a step
+
+-- one more counted, on as high a stack
+pub counted_there : (r : Registers) (h : ℕ) {s : Registers} → s ≡ stepped r h → h ≡ r.height → s ≡ stepped r r.height
+counted_there r h e i = e ∙ ap (stepped r) i
 
 -- what a step with it asks for
 pub ready_now : {w : List ℕ} {r : Registers} (pre body b : List ℕ) (c : Place) (at : ℕ) → Good w r → 0 < r.depth → Executes (both pre body) (abs w r) → r.steps < 4294967295
