@@ -79,6 +79,8 @@ fn operator_item(a: u32, b: u32, c: u32) -> Option<Item>
     Some(Item::Operator { number: a as u16 })
 }
 
+// In line, as `item_at` is: else an item goes through memory, and writing operators takes twice the time.
+#[inline(always)]
 fn item_of(x: &[u8], k: u32, a: u32, b: u32, c: u32) -> Option<Item>
     ensures { Judged x.now (entry_of x.now k a b c) result }
 {
@@ -92,6 +94,7 @@ fn item_of(x: &[u8], k: u32, a: u32, b: u32, c: u32) -> Option<Item>
 }
 
 // The token at byte `at` of the list, if one stands there that can be written.
+#[inline(always)]
 pub fn item_at(list: &[u8], text: &[u8], at: usize) -> Option<Item>
     requires { at ≤ length list.now }
     ensures { Judged text.now (entry_at list.now text.now at) result }

@@ -1,6 +1,7 @@
 -- `reading::read_token` meets its contract: by the form. Assumes nothing.
 use mathlib.Core.Path.{sym, ap, ◌∙◌}
 use Rattle.std.specs.Prelude.{Ok, Err}
+use Rattle.std.proofs.lemmas.Result.{err_from_is_err_and}
 use Rattle.numbers.specs.declared.Number as number
 use Rattle.tokens.specs.declared.Form.TheVariants.{Number, Operator, Sequence}
 use Rattle.tokens.specs.declared.Read.TheVariants as read
@@ -29,8 +30,15 @@ sequence_at-requires c =
     let g : Shows a.s.now a.at Sequence = rw c.in-Sequence.is at c.in-Some.ensures in
     g.0
 
-pub returns-in-Sequence : goal.returns-in-Sequence
-returns-in-Sequence c =
+pub returns-in_ok-sequence_at-in-Sequence : goal.returns-in_ok-sequence_at-in-Sequence
+returns-in_ok-sequence_at-in-Sequence c =
     let a = c.args in
     let g : Shows a.s.now a.at Sequence = rw c.in-Sequence.is at c.in-Some.ensures in
-    c.sequence_at.ensures ∙ sym (sequence_is a.s.now a.at g.0 g.1)
+    sym c.in_ok-sequence_at-in-Sequence.was ∙ c.sequence_at.ensures ∙ sym (sequence_is a.s.now a.at g.0 g.1)
+
+pub returns-in_err-sequence_at-in-Sequence : goal.returns-in_err-sequence_at-in-Sequence
+returns-in_err-sequence_at-in-Sequence c =
+    let a = c.args in
+    let g : Shows a.s.now a.at Sequence = rw c.in-Sequence.is at c.in-Some.ensures in
+    let p = err_from_is_err_and c.from_residual.result c.from_residual.ensures.1 in
+    rw (p.1, p.2) (sym c.in_err-sequence_at-in-Sequence.was ∙ c.sequence_at.ensures ∙ sym (sequence_is a.s.now a.at g.0 g.1))
